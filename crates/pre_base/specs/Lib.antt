@@ -1,0 +1,12 @@
+pub mod Faults
+pub mod Told
+pub mod Shelves
+pub mod ShelfCounts
+pub mod Sinks
+pub mod Pieces
+pub mod Reading
+pub mod Memory
+pub mod SinkView
+pub mod Entries
+pub mod ShelfView
+pub mod Calls
