@@ -1,0 +1,5 @@
+pub mod Lines
+pub mod Words
+pub mod Writing
+pub mod Spelled
+pub mod Reading
