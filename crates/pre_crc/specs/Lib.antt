@@ -1,0 +1,4 @@
+pub mod Division
+pub mod Checks
+pub mod Register
+pub mod CheckFacts
