@@ -1,0 +1,4 @@
+pub mod Frames
+pub mod Octets
+pub mod FrameLaws
+pub mod BuiltLaws

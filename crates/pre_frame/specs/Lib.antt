@@ -1,0 +1,5 @@
+pub mod Layout
+pub mod FrameFields
+pub mod Views
+pub mod Built
+pub mod FrameFacts
