@@ -1,0 +1,9 @@
+pub mod Spelled
+pub mod Faulted
+pub mod Chains
+pub mod Later
+pub mod Carried
+pub mod Opened
+pub mod OneOpen
+pub mod Counted
+pub mod Rows

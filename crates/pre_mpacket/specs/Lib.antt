@@ -1,0 +1,6 @@
+pub mod Spelling
+pub mod Pieces
+pub mod CutSizes
+pub mod Arrivals
+pub mod Open
+pub mod Counters
