@@ -1,0 +1,13 @@
+ghost use Rattle.std.specs.Prelude.{◌≡◌, ℕ, ◌<◌, Option};
+ghost use Rattle.std.specs.Option.{option_map};
+ghost use Rattle.std.specs.FinMap as map;
+ghost use Rattle.pre_base.specs.declared.numbers.Tick.{Tick};
+ghost use Rattle.pre_wheel.specs.Dues.{Dues, IsLeast, IsEmpty};
+ghost use Rattle.pre_wheel.specs.Until.{IsBefore};
+
+/// Before the least entry's tick no member is due, where each member stands on the wheel with the tick
+/// at which it is due; and on a wheel with no entry no member is ever due.
+pub fn skipping_law()
+    ensures least { (dues : Dues) (first tick member t : ℕ) (due : Option Tick) → IsLeast dues first tick → map.get dues.due member ≡ option_map (λ d. d.0) due → t < tick → IsBefore t due }
+    ensures none { (dues : Dues) (member t : ℕ) (due : Option Tick) → IsEmpty dues → map.get dues.due member ≡ option_map (λ d. d.0) due → IsBefore t due }
+{}
