@@ -1,0 +1,4 @@
+pub mod Windows
+pub mod Levels
+pub mod Meters
+pub mod Buckets
