@@ -1,0 +1,9 @@
+pub mod Tlvs
+pub mod Pdus
+pub mod PduReading
+pub mod Views
+pub mod Parts
+pub mod LldpLayout
+pub mod Ages
+pub mod Neighbours
+pub mod LinkState
