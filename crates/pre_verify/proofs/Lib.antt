@@ -1,0 +1,5 @@
+pub mod Lists
+pub mod Runs
+pub mod Standing
+pub mod Steps
+pub mod Dues
