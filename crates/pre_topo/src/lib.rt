@@ -1,0 +1,44 @@
+//! Networks: stations, bridges and the arcs between them.
+#![tactic(auto)]
+
+mod arcs;
+mod names;
+mod network;
+mod nodes;
+mod pairs;
+
+pub use arcs::{Arc, Mode, Policy, reverse};
+pub use network::Network;
+pub use nodes::{Node, NodeKind, Timing};
+pub use pairs::pair;
+
+#[cfg(test)]
+mod tests {
+    use super::*;
+    use pre_base::{ArcId, NodeId};
+    use std::test::Fail;
+
+    #[test]
+    fn names_of_pair(rt: HostRuntime) -> Result<(), Fail> {
+        let net = pair(rt.alloc())?;
+        assert_eq!(rt; net.node_name(NodeId(0)), b"a".as_slice());
+        assert_eq!(rt; net.node_name(NodeId(1)), b"b".as_slice());
+        assert_eq!(rt; net.node_name(NodeId(2)), b"".as_slice());
+        assert_eq!(rt; net.arc_named(b"a>b"), Some(ArcId(0)));
+        assert_eq!(rt; net.arc_named(b"b>a"), Some(ArcId(1)));
+        for word in [
+            "a>c", "c>b", "a>a", "a<b", "a>", ">b", "a>b>", "a>bb", "aa>b", "ab", "a", "",
+        ] {
+            assert_eq!(rt; net.arc_named(word.as_bytes()), None, "{word}");
+        }
+        Ok(())
+    }
+
+    #[test]
+    fn ways_of_a_link(rt: HostRuntime) {
+        for (there, back) in [(0, 1), (2, 3), (254, 255)] {
+            assert_eq!(rt; reverse(ArcId(there)), ArcId(back));
+            assert_eq!(rt; reverse(ArcId(back)), ArcId(there));
+        }
+    }
+}
