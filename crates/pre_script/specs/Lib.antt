@@ -1,0 +1,6 @@
+pub mod Rules
+pub mod Seen
+pub mod Drafts
+pub mod Saying
+pub mod Reading
+pub mod Fits

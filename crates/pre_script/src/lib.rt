@@ -1,0 +1,68 @@
+//! Scripts: what is sent in a run, and what befalls its links.
+#![tactic(auto)]
+
+mod drafts;
+mod reading;
+mod rules;
+mod saying;
+mod scripts;
+
+pub use reading::read_script;
+pub use scripts::{Damage, Loss, Script, ScriptFault, SendLine, SetLine, Setting};
+
+#[cfg(test)]
+mod tests {
+    use super::*;
+    use pre_base::{Send, StreamId, Tick};
+    use std::alloc::Global;
+    use std::test::Fail;
+
+    fn read_with_pair(alloc: Global, text: &[u8]) -> Result<Result<Script, ScriptFault>, Fail> {
+        let net = pre_topo::pair(alloc)?;
+        let streams = pre_streams::pair(alloc)?;
+        Ok(read_script(alloc, text, &net, &streams))
+    }
+
+    fn fault_of(alloc: Global, text: &[u8]) -> Result<Option<ScriptFault>, Fail> {
+        Ok(read_with_pair(alloc, text)?.err())
+    }
+
+    fn fault(line: u64, rule: u8) -> Option<ScriptFault> {
+        Some(ScriptFault::Fault { line, rule })
+    }
+
+    #[test]
+    fn reads_a_script(rt: HostRuntime) -> Result<(), Fail> {
+        let text = b"# two frames\nsend 0 x 64\r\n\n send  5 x 1522\nuntil 10\n#\n";
+        let script = read_with_pair(rt.alloc(), text)?.ok().ok_or("script")?;
+        let send = Send {
+            tick: Tick(5),
+            stream: StreamId(0),
+            size: 1522,
+        };
+        assert_eq!(rt; script.sends.len(), 2);
+        assert_eq!(rt;
+            script.sends.as_slice().last().copied(),
+            Some(SendLine { send, line: 4 })
+        );
+        assert_eq!(rt; script.until, Tick(10));
+        Ok(())
+    }
+
+    #[test]
+    fn finds_the_first_fault(rt: HostRuntime) -> Result<(), Fail> {
+        let alloc = rt.alloc();
+        assert_eq!(rt; fault_of(alloc, b"lose a>b 0")?, fault(1, 1));
+        assert_eq!(rt; fault_of(alloc, b"send 0 x 64 7")?, fault(1, 1));
+        assert_eq!(rt; fault_of(alloc, b"\nsend 01 x 64")?, fault(2, 2));
+        assert_eq!(rt; fault_of(alloc, b"send 0 z 63")?, fault(1, 3));
+        assert_eq!(rt; fault_of(alloc, b"send 0 y 64")?, fault(1, 3));
+        assert_eq!(rt; fault_of(alloc, b"send 9 x 64\nsend 8 x 63")?, fault(2, 4));
+        assert_eq!(rt; fault_of(alloc, b"send 0 x 63")?, fault(1, 5));
+        assert_eq!(rt; fault_of(alloc, b"set 0 a>b on")?, fault(1, 6));
+        assert_eq!(rt; fault_of(alloc, b"send 0 x 64\n")?, fault(2, 7));
+        assert_eq!(rt; fault_of(alloc, b"until 1\nunknown")?, fault(2, 8));
+        assert_eq!(rt; fault_of(alloc, b"until 4000000000001")?, fault(1, 10));
+        Ok(())
+    }
+}
