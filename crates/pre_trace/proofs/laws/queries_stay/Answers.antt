@@ -1,0 +1,9 @@
+use Rattle.pre_trace.proofs.Later.{waiting_later}
+use Rattle.pre_trace.proofs.LaterEnds.{occupied_later}
+use Rattle.pre_trace.proofs.laws.queries_stay.Goals as goal
+
+pub returns-clause-waiting : goal.returns-clause-waiting
+returns-clause-waiting c = waiting_later
+
+pub returns-clause-occupied : goal.returns-clause-occupied
+returns-clause-occupied c = occupied_later

@@ -1,0 +1,19 @@
+//! Traces: the events of a run, their text, and what watches them.
+#![tactic(auto)]
+
+mod events;
+mod laws;
+mod text;
+mod watchers;
+
+pub use events::{Event, Outcome, What};
+pub use laws::{
+    deliveries_are_what_was_sent, events_before_their_end, idle_moments, mpackets_in_order,
+    one_history, one_told_history, queries_stay, small_histories_are_legal, tests_are_decided,
+    turns_are_kept,
+};
+pub use text::put_event;
+pub use watchers::{TraceWatcher, Watcher};
+
+#[cfg(test)]
+mod tests;
