@@ -1,0 +1,5 @@
+pub mod Telling
+pub mod Reach
+pub mod Views
+pub mod Steps
+pub mod Told

@@ -1,0 +1,18 @@
+//! The run of a script over a network, tick by tick.
+#![tactic(auto)]
+
+mod arcs;
+mod halts;
+mod lanes;
+mod laws;
+mod phases;
+mod plans;
+mod runs;
+mod telling;
+mod ticks;
+
+pub use laws::pair_can_run;
+pub use runs::{Sim, Step};
+
+#[cfg(test)]
+mod tests;

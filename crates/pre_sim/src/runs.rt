@@ -1,0 +1,120 @@
+ghost use Rattle.std.specs.Prelude.{◌≡◌, ◌≤◌, ◌+◌, IfOk, length, vec_len, true};
+ghost use Rattle.pre_sim.specs.Reach.{CanRun};
+
+use crate::halts::Halt;
+use crate::lanes::idle_lanes;
+use crate::plans::Plan;
+use crate::ticks::{Progress, advance};
+use pre_base::{ArcId, Tick};
+use pre_script::Script;
+use pre_streams::Streams;
+use pre_topo::Network;
+use pre_trace::Watcher;
+use std::alloc::{AllocError, Global};
+use std::marker::Model;
+
+/// What a step of a run came to.
+#[derive(Clone, Copy, Debug, PartialEq, Eq)]
+pub enum Step {
+    /// There is more to do, at a later tick.
+    More,
+    /// The last tick is done, and the closing events are told.
+    Ended,
+    /// Before this arrival, which would give what wasn't sent as it.
+    Alias { arc: ArcId, ordinal: u64 },
+    /// The watcher failed.
+    Stopped,
+    /// Want of memory.
+    Memory,
+}
+
+/// The run of a script over a network and streams.
+#[derive(Drop)]
+pub struct Sim<'a> {
+    plan: Plan<'a>,
+    progress: Progress,
+    next: Tick,
+    going: bool,
+}
+
+impl<'a> Model for Sim<'a> {
+    ghost use Rattle.std.specs.Prelude.{◌≡◌, ◌≤◌, length, vec_len};
+    ghost use Rattle.pre_sim.specs.Views.{SimView};
+    ghost use Rattle.pre_sim.specs.Reach.{CanRun};
+
+    ghost Value = { SimView };
+
+    ghost view = { λ s. record { net = s.plan.net.now; until = s.plan.script.now.until.0; next = s.next.0; going = s.going } };
+
+    ghost invariant = { λ s. CanRun s.plan.net.now s.plan.streams.now s.plan.script.now × (vec_len s.progress.lanes ≡ length s.plan.net.now.arcs) × (s.next.0 ≤ s.plan.script.now.until.0) };
+}
+
+impl<'a> Sim<'a> {
+    ghost use Rattle.pre_sim.specs.Steps.{is_more, StepTells, StepMoves, StepCause};
+
+    /// A run that is about to begin.
+    pub fn make(
+        alloc: Global,
+        net: &'a Network,
+        streams: &'a Streams,
+        script: &'a Script,
+    ) -> Result<Sim<'a>, AllocError>
+        requires { CanRun net.now streams.now script.now }
+        ensures { IfOk result (λ s. (s.net ≡ net.now) × (s.until ≡ script.now.until.0) × (s.next ≡ 0) × (s.going ≡ true)) }
+    {
+        let lanes = idle_lanes(alloc, net.arcs.len())?;
+        Ok(Sim {
+            plan: Plan {
+                net,
+                streams,
+                script,
+            },
+            progress: Progress {
+                lanes,
+                sent: 0,
+                delivered: 0,
+                dropped: 0,
+            },
+            next: Tick(0),
+            going: true,
+        })
+    }
+
+    /// Whether there is more to do.
+    pub fn going(&self) -> bool
+        ensures { result ≡ self.now.going }
+    {
+        self.going
+    }
+
+    /// Does the next tick, and tells the watcher what happens at it.
+    pub fn step<W: Watcher>(&mut self, watcher: &mut W) -> Step
+        requires { self.old.going ≡ true }
+        ensures told { StepTells self.old.net result (W.took watcher.old) (W.took watcher.new) (W.torn watcher.new) }
+        ensures going { self.new.going ≡ is_more result }
+        ensures moves { StepMoves result self.old self.new }
+        ensures kept { (self.new.net ≡ self.old.net) × (self.new.until ≡ self.old.until) }
+        ensures cause { StepCause result (W.faults watcher.old) (W.faults watcher.new) }
+        ensures same { W.same watcher.old watcher.new }
+    {
+        let now = self.next;
+        match advance(&self.plan, now, &mut self.progress, watcher) {
+            Ok(false) => {
+                self.next = Tick(now.0 + 1);
+                Step::More
+            }
+            Ok(true) => {
+                self.going = false;
+                Step::Ended
+            }
+            Err(Halt::Stopped) => {
+                self.going = false;
+                Step::Stopped
+            }
+            Err(Halt::Memory) => {
+                self.going = false;
+                Step::Memory
+            }
+        }
+    }
+}
