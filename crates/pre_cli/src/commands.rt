@@ -1,0 +1,14 @@
+ghost use Rattle.std.specs.Prelude.{◌≡◌, map, string_bytes};
+ghost use Rattle.std.specs.Option.{option_map};
+ghost use Rattle.pre_cli.specs.Words.{script_named};
+
+/// The name of the script, where the words are `replay pair` and a name.
+pub(crate) fn script_named(words: &[String]) -> Option<&str>
+    ensures { option_map (λ name. name.now) result ≡ script_named (map string_bytes words.now) }
+{
+    match words {
+        [command, built_in, name] if command.as_str() == "replay" && built_in.as_str() == "pair" =>
+            { Some(name.as_str()) }
+        _ => None,
+    }
+}

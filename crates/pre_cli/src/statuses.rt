@@ -1,0 +1,115 @@
+ghost use Rattle.std.specs.Prelude.{◌≡◌, ◌++◌, codes};
+ghost use Rattle.pre_base.specs.Faults.{HasCause};
+ghost use Rattle.pre_base.specs.Told.{WhereTold};
+ghost use Rattle.pre_base.specs.Sinks.{TakesAll};
+ghost use Rattle.pre_cli.specs.Statuses.{number_of, file_word, behind_space, text_of, usage};
+
+use pre_base::{Failed, Sink, write_all};
+use pre_text::put_number;
+
+/// The kinds of file that words name.
+#[derive(Clone, Copy, Debug, PartialEq, Eq)]
+pub enum FileWord {
+    Net,
+    Streams,
+    Cert,
+    Script,
+    Mpackets,
+}
+
+/// What a command came to.
+#[derive(Clone, Copy, Debug, PartialEq, Eq)]
+pub enum Status {
+    /// The whole was done.
+    Done,
+    /// The words have none of the known forms.
+    Words,
+    /// A file wasn't read: it isn't there, or the shelf failed.
+    ReadFault,
+    /// The sink failed.
+    WriteFault,
+    /// The first fault of a file's grammar: its line from 1 and its rule, or 0 and 0 where the file is too long.
+    Form { file: FileWord, line: u64, rule: u8 },
+    /// Want of memory.
+    Memory,
+}
+
+impl Status {
+    ghost use Rattle.pre_cli.specs.Statuses.{number_of};
+
+    /// The number that the program ends with.
+    pub fn number(&self) -> u8
+        ensures { result ≡ number_of self.now }
+    {
+        match self {
+            Status::Done => 0,
+            Status::Words => 1,
+            Status::ReadFault => 2,
+            Status::WriteFault => 3,
+            Status::Form { .. } => 4,
+            Status::Memory => 10,
+        }
+    }
+}
+
+fn form_word(file: FileWord) -> &'static [u8]
+    ensures { result.now ≡ codes "form " ++ file_word file }
+{
+    match file {
+        FileWord::Net => b"form net",
+        FileWord::Streams => b"form streams",
+        FileWord::Cert => b"form cert",
+        FileWord::Script => b"form script",
+        FileWord::Mpackets => b"form mpackets",
+    }
+}
+
+fn put_behind_space<S: Sink>(sink: &mut S, n: u64) -> Result<(), Failed>
+    ensures octets { WhereTold (S.tells sink.old) (S.tells sink.new) (TakesAll result (behind_space n)) }
+    ensures cause { HasCause (S.faults sink.old) (S.faults sink.new) result }
+{
+    write_all(sink, b" ")?;
+    put_number(sink, n)
+}
+
+fn put_place<S: Sink>(sink: &mut S, line: u64, rule: u64) -> Result<(), Failed>
+    ensures octets { WhereTold (S.tells sink.old) (S.tells sink.new) (TakesAll result (behind_space line ++ behind_space rule)) }
+    ensures cause { HasCause (S.faults sink.old) (S.faults sink.new) result }
+{
+    put_behind_space(sink, line)?;
+    put_behind_space(sink, rule)
+}
+
+fn put_form<S: Sink>(sink: &mut S, file: FileWord, line: u64, rule: u8) -> Result<(), Failed>
+    ensures octets { WhereTold (S.tells sink.old) (S.tells sink.new) (TakesAll result ((codes "form " ++ file_word file) ++ (behind_space line ++ behind_space rule))) }
+    ensures cause { HasCause (S.faults sink.old) (S.faults sink.new) result }
+{
+    write_all(sink, form_word(file))?;
+    put_place(sink, line, rule as u64)
+}
+
+#[tactic(auto, unfolding(crate::specs::Statuses::usage))]
+fn put_usage<S: Sink>(sink: &mut S) -> Result<(), Failed>
+    ensures octets { WhereTold (S.tells sink.old) (S.tells sink.new) (TakesAll result usage) }
+    ensures cause { HasCause (S.faults sink.old) (S.faults sink.new) result }
+{
+    write_all(
+        sink,
+        b"usage: preempt certify, judge, replay, mpackets or drill",
+    )
+}
+
+/// Writes the text of a status, without an end of the line, and nothing for Done.
+pub fn put_status<S: Sink>(status: &Status, sink: &mut S) -> Result<(), Failed>
+    ensures octets { WhereTold (S.tells sink.old) (S.tells sink.new) (TakesAll result (text_of status.now)) }
+    ensures cause { HasCause (S.faults sink.old) (S.faults sink.new) result }
+{
+    match *status {
+        Status::Done => Ok(()),
+        Status::Words => put_usage(sink),
+        Status::ReadFault => write_all(sink, b"read fault"),
+        Status::WriteFault => write_all(sink, b"write fault"),
+        Status::Form { file, line, rule } => put_form(sink, file, line, rule),
+        Status::Memory => write_all(sink, b"memory"),
+    }
+}
