@@ -4,3 +4,10 @@ pub mod Hops
 pub mod Named
 pub mod Pair
 pub mod PairStreams
+pub mod Raw
+pub mod Seen
+pub mod Reads
+pub mod FileRules
+pub mod Made
+pub mod StreamsOf
+pub mod Holds

@@ -1,11 +1,21 @@
 //! Streams and flows: what is sent through a network, and by which arcs.
 #![tactic(auto)]
 
+mod building;
+mod checks;
+mod faults;
+mod fields;
 mod lookups;
 mod pairs;
+mod raw;
+mod raw_rows;
+mod reading;
+mod routes;
 mod rows;
 
+pub use faults::StreamFault;
 pub use pairs::pair;
+pub use reading::read_streams;
 pub use rows::{Row, Streams};
 
 #[cfg(test)]

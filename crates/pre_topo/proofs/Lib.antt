@@ -1,1 +1,6 @@
 mod Joined
+mod FirstRows
+mod Faultless
+mod MadeNodes
+mod MadeArcs
+mod MadeNetwork

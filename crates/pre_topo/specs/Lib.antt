@@ -5,3 +5,12 @@ pub mod Names
 pub mod Named
 pub mod Pair
 pub mod PairNetwork
+pub mod Memory
+pub mod Raw
+pub mod Seen
+pub mod Reads
+pub mod FileRules
+pub mod Made
+pub mod NetworkOf
+pub mod Holds
+pub mod Bounds

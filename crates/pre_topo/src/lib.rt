@@ -2,15 +2,29 @@
 #![tactic(auto)]
 
 mod arcs;
+mod building;
+mod checks;
+mod copies;
+mod faults;
+mod fields;
 mod names;
 mod network;
 mod nodes;
 mod pairs;
+mod ranges;
+mod raw;
+mod reading;
+mod rows;
+mod sums;
+mod writing;
 
 pub use arcs::{Arc, Mode, Policy, reverse};
+pub use faults::TopoFault;
 pub use network::Network;
 pub use nodes::{Node, NodeKind, Timing};
 pub use pairs::pair;
+pub use reading::read_network;
+pub use writing::put_network;
 
 #[cfg(test)]
 mod tests {

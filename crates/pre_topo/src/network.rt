@@ -3,6 +3,7 @@ ghost use Rattle.std.specs.Option.{option_map};
 ghost use Rattle.pre_topo.specs.Rules.{IsNetwork};
 
 use crate::names::{name_of, place_of};
+use crate::sums::{slots_sum, wires_sum};
 use crate::{Arc, Node, Timing};
 use pre_base::{ArcId, Items, NodeId};
 
@@ -18,7 +19,9 @@ pub struct Network {
 }
 
 impl Network {
+    ghost use Rattle.std.specs.Prelude.{◌≤◌};
     ghost use Rattle.pre_topo.specs.Named.{arc_named, node_name};
+    ghost use Rattle.pre_topo.specs.Memory.{slots, wires};
 
     /// The name of a node, and nothing where there is no such node.
     pub fn node_name(&self, node: NodeId) -> &[u8]
@@ -33,5 +36,22 @@ impl Network {
     {
         let place = place_of(self.nodes.as_slice(), self.arcs.as_slice(), word)?;
         Some(ArcId(place as u16))
+    }
+
+    /// The frames that may be kept at once, at most 60,000: in the rings, at the senders, and on their way through
+    /// bridges.
+    pub fn slots(&self) -> u64
+        ensures value { result ≡ slots self.now }
+        ensures most { result ≤ 60000 }
+    {
+        slots_sum(self.nodes.as_slice(), self.arcs.as_slice())
+    }
+
+    /// The octets that may be on all wires at once, at most 67,108,864.
+    pub fn wires(&self) -> u64
+        ensures value { result ≡ wires self.now }
+        ensures most { result ≤ 67108864 }
+    {
+        wires_sum(self.arcs.as_slice())
     }
 }

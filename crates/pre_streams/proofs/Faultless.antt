@@ -1,0 +1,117 @@
+-- Raw rows without a fault.
+use Rattle.std.proofs.Common.{◌≡◌, ℕ, zero, suc, ◌+◌, ◌<◌, ◌≤◌, Bool, true, false, not, ◌&&◌, ◌||◌, List, [], ◌∷◌, length, take, get_or, slice_get, Option, Some, None, option_map, option_and_then, is_some, position, All, AllPairs, nat_le, if◌then◌else◌, refl, sym, ◌∙◌, ap, arith, IsTrue, subst}
+use Rattle.std.specs.List.{list_any}
+use Rattle.std.specs.Option.{option_map_or}
+use Rattle.std.specs.Str.{bytes_eq}
+use Rattle.std.proofs.lemmas.Bool.{not-false, or_parts, and_parts, leb-true, false≢true}
+use Rattle.std.proofs.lemmas.Option.{slice_get-get_or}
+use Rattle.std.proofs.lemmas.List.Quantifiers.{position-Some}
+use Rattle.pre_text.specs.Words.{is_name}
+use Rattle.pre_table.specs.declared.values.Whole.TheVariants.{Natural}
+use Rattle.pre_table.specs.FirstFaults.{first_of, first_row}
+use Rattle.pre_topo.specs.declared.network.Network.{Network}
+use Rattle.pre_streams.specs.declared.faults.StreamFault.{StreamFault}
+use Rattle.pre_streams.specs.declared.faults.StreamFault.TheVariants.{Count}
+use Rattle.pre_streams.specs.declared.raw.RawStreams.{RawStreams}
+use Rattle.pre_streams.specs.declared.raw.RawFlow.{RawFlow}
+use Rattle.pre_streams.specs.FileRules.{name_breaks, name_fault, is_named, entry_breaks, other_route, hop_fault, bad_route, route_fault, class_breaks, class_fault, row_in_range, curve_in_range, range_breaks, range_fault, burst_breaks, burst_fault, counts_hold, raw_fault}
+use Rattle.pre_streams.specs.Holds.{Holds}
+use Rattle.pre_streams.proofs.FirstRows.{none_passes, none_breaks}
+
+pub default_row : RawFlow
+default_row = record { name = []; vid = Natural 0; prio = Natural 0; route = []; max = Natural 0 }
+
+-- where there is no first, there is none
+first_none : {A : Type 0} (o : Option A) (os : List (Option A)) → first_of (o ∷ os) ≡ None → (o ≡ None) × (first_of os ≡ None)
+first_none None os none = (refl, none)
+first_none (Some x) os none = cc
+
+map_none : {A B : Type 0} (f : A → B) (o : Option A) → option_map f o ≡ None → o ≡ None
+map_none f None none = refl
+map_none f (Some x) none = cc
+
+unless_none : (b : Bool) (fault : StreamFault) → (if b then None else Some fault) ≡ None → IsTrue b
+unless_none true fault none = refl
+unless_none false fault none = cc
+
+-- what a test of any of the elements before a place says of each of them
+pub none_before : {X : Type 0} (p : X → Bool) (xs : List X) (j : ℕ) → list_any p (take j xs) ≡ false → (i : ℕ) (d : X) → i < j → i < length xs → p (get_or xs i d) ≡ false
+none_before p [] j none i d before within = absurd (omega arith)
+none_before p (x ∷ xs) zero none i d before within = absurd (omega arith)
+none_before p (x ∷ xs) (suc j) none zero d before within = (or_parts (p x) (list_any p (take j xs)) none).0
+none_before p (x ∷ xs) (suc j) none (suc i) d before within = none_before p xs j (or_parts (p x) (list_any p (take j xs)) none).1 i d (omega arith) (omega arith)
+
+not_some : {A : Type 0} (o : Option A) → is_some o ≡ false → o ≡ None
+not_some None is = refl
+not_some (Some x) is = cc
+
+-- the row at the first place has a value
+has_value : {X A : Type 0} (f : X → Option A) (xs : List X) (i : ℕ) → position (λ x. is_some (f x)) xs ≡ Some i → option_and_then f (slice_get xs i) ≡ None → ⊥
+has_value f [] i first none = cc
+has_value f (x ∷ xs) i first none =
+    let (within, passes, before) = position-Some (λ x. is_some (f x)) (x ∷ xs) i x first in
+    let there : f (get_or (x ∷ xs) i x) ≡ None = subst (λ o. option_and_then f o ≡ None) (slice_get-get_or (x ∷ xs) i x within) none in
+    false≢true (sym (ap (λ o. is_some o) there) ∙ passes)
+
+-- the first place whose row has a value, and that value
+placed : {X A : Type 0} (f : X → Option A) (xs : List X) → option_and_then {U = ℕ × A} (λ place. option_map (λ hop. (place, hop)) (option_and_then f (slice_get xs place))) (position (λ x. is_some (f x)) xs) ≡ None → position (λ x. is_some (f x)) xs ≡ None
+placed {A = A} f xs none = by_cases (position (λ x. is_some (f x)) xs) refl none
+  where
+    by_cases : (o : Option ℕ) → o ≡ position (λ x. is_some (f x)) xs → option_and_then {U = ℕ × A} (λ place. option_map (λ hop. (place, hop)) (option_and_then f (slice_get xs place))) o ≡ None → o ≡ None
+    by_cases None is none = refl
+    by_cases (Some i) is none = absurd (has_value f xs i (sym is) (map_none _ _ none))
+
+module _ (net : Network) (raw : RawStreams) where
+  names_hold : name_fault raw ≡ None → All (λ r. IsTrue (is_name r.name)) raw.rows × AllPairs (λ q r. bytes_eq q.name r.name ≡ false) raw.rows
+  unfolding name_fault
+  names_hold none = (
+    λ k d within. not-false (is_name (get_or raw.rows k d).name) (parts k d within).0,
+    λ i j d before within. none_before (is_named (get_or raw.rows j d).name) raw.rows j (parts j d within).1 i d before (omega arith),
+  )
+    where
+      parts : (k : ℕ) (d : RawFlow) → k < length raw.rows → (not (is_name (get_or raw.rows k d).name) ≡ false) × (list_any (is_named (get_or raw.rows k d).name) (take k raw.rows) ≡ false)
+      parts k d within = or_parts (not (is_name (get_or raw.rows k d).name)) (list_any (is_named (get_or raw.rows k d).name) (take k raw.rows)) (none_breaks (name_breaks raw.rows) raw.rows (map_none _ _ none) k d within)
+
+  hops_hold : route_fault net raw ≡ None → All (λ r. hop_fault net raw.rows r ≡ None) raw.rows
+  unfolding route_fault
+  hops_hold none k d within =
+      not_some (hop_fault net raw.rows (get_or raw.rows k d)) (none_passes (λ r. is_some (hop_fault net raw.rows r)) raw.rows (placed (hop_fault net raw.rows) raw.rows (map_none _ _ none)) k d within)
+
+  class_holds : class_fault net raw ≡ None → (k : ℕ) (d : RawFlow) → k < length raw.rows → class_breaks net.express_from raw.curves k (get_or raw.rows k d) ≡ false
+  unfolding class_fault
+  class_holds none = none_breaks (class_breaks net.express_from raw.curves) raw.rows (map_none _ _ none)
+
+  ranges_hold : range_fault raw ≡ None → (k : ℕ) (d : RawFlow) → k < length raw.rows → IsTrue (row_in_range (get_or raw.rows k d)) × IsTrue (option_map_or curve_in_range (slice_get raw.curves k) true)
+  unfolding range_fault
+  ranges_hold none k d within =
+      and_parts (row_in_range (get_or raw.rows k d)) (option_map_or curve_in_range (slice_get raw.curves k) true)
+      (not-false (row_in_range (get_or raw.rows k d) && option_map_or curve_in_range (slice_get raw.curves k) true) (none_breaks (range_breaks raw.curves) raw.rows (map_none _ _ none) k d within))
+
+  bursts_hold : burst_fault raw ≡ None → (k : ℕ) (d : RawFlow) → k < length raw.rows → burst_breaks raw.curves k (get_or raw.rows k d) ≡ false
+  unfolding burst_fault
+  bursts_hold none = none_breaks (burst_breaks raw.curves) raw.rows (map_none _ _ none)
+
+  pub faultless : raw_fault net raw ≡ None → Holds net raw
+  faultless none =
+      let (names, behind_names) = first_none (name_fault raw) _ none in
+      let (routes, behind_routes) = first_none (route_fault net raw) _ behind_names in
+      let (class, behind_class) = first_none (class_fault net raw) _ behind_routes in
+      let (range, behind_range) = first_none (range_fault raw) _ behind_class in
+      let (burst, behind_burst) = first_none (burst_fault raw) _ behind_range in
+      let (count, behind_count) = first_none _ _ behind_burst in
+      let named = names_hold names in
+      let hops = hops_hold routes in
+      let ranges = ranges_hold range in
+      let counts = and_parts (nat_le (length raw.curves) 256) (nat_le (length raw.rows) (length raw.curves + 256)) (unless_none (counts_hold raw) Count count) in
+      record {
+        names = named.0;
+        apart = named.1;
+        entries = λ k d within. (first_none (first_row (entry_breaks net (get_or raw.rows k d).route) (get_or raw.rows k d).route) _ (hops k d within)).0;
+        routes = λ k d within. (first_none (other_route raw.rows (get_or raw.rows k d)) _ (first_none (first_row (entry_breaks net (get_or raw.rows k d).route) (get_or raw.rows k d).route) _ (hops k d within)).1).0;
+        class = class_holds class;
+        rows = λ k d within. (ranges k d within).0;
+        curves = λ k within. (ranges k (default_row) within).1;
+        bursts = bursts_hold burst;
+        streams_count = leb-true (length raw.curves) 256 counts.0;
+        flows_count = leb-true (length raw.rows) (length raw.curves + 256) counts.1;
+      }

@@ -1,0 +1,226 @@
+ghost use Rattle.std.specs.Prelude.{◌≡◌, ◌<◌, length, position, is_some, slice_get, true, nat_lt, ◌+◌};
+ghost use Rattle.std.specs.List.{list_any};
+ghost use Rattle.std.specs.Option.{option_map_or};
+ghost use Rattle.pre_table.specs.FirstFaults.{first_row};
+ghost use Rattle.pre_streams.specs.FileRules.{is_named, name_breaks, row_at, hop_fault, bad_route, class_breaks, length_in_range, curve_in_range, row_in_range, range_breaks, burst_breaks, name_fault, route_fault, class_fault, range_fault, burst_fault, counts_hold, raw_fault};
+
+use crate::StreamFault;
+use crate::raw::{RawCurve, RawFlow, RawStreams};
+use crate::routes::{hop_fault, is_same};
+use pre_base::{FileRow, Name};
+use pre_topo::Network;
+
+fn row_at(streams: usize, place: usize) -> FileRow
+    ensures { result ≡ row_at streams place }
+{
+    if place < streams {
+        FileRow::Stream(place as u64)
+    } else {
+        FileRow::Flow((place - streams) as u64)
+    }
+}
+
+fn is_given(rows: &[RawFlow], name: &Name) -> bool
+    ensures { result ≡ list_any (is_named name.now) rows.now }
+{
+    rows.iter().any(|row| is_same(&row.name, name))
+}
+
+fn name_breaks(rows: &[RawFlow], place: usize, row: &RawFlow) -> bool
+    requires { place < length rows.now }
+    ensures { result ≡ name_breaks rows.now place row.now }
+{
+    !pre_text::name(row.name.as_str().as_bytes()) || is_given(&rows[..place], &row.name)
+}
+
+fn bad_name(rows: &[RawFlow]) -> Option<usize>
+    ensures { result ≡ first_row (name_breaks rows.now) rows.now }
+{
+    rows.iter()
+        .enumerate()
+        .position(|(place, row)| name_breaks(rows, place, row))
+}
+
+#[tactic(auto, unfolding(crate::specs::FileRules::name_fault))]
+fn name_fault(raw: &RawStreams) -> Option<StreamFault>
+    ensures { result ≡ name_fault raw.now }
+{
+    let place = bad_name(raw.rows.as_slice())?;
+    let row = row_at(raw.curves.len(), place);
+    Some(StreamFault::Name { row })
+}
+
+fn has_bad_route(net: &Network, rows: &[RawFlow], row: &RawFlow) -> bool
+    ensures { result ≡ is_some (hop_fault net.now rows.now row.now) }
+{
+    hop_fault(net, rows, row).is_some()
+}
+
+fn row_of_bad_route(net: &Network, rows: &[RawFlow]) -> Option<usize>
+    ensures { result ≡ position (λ r. is_some (hop_fault net.now rows.now r)) rows.now }
+{
+    rows.iter().position(|row| has_bad_route(net, rows, row))
+}
+
+fn bad_route(net: &Network, rows: &[RawFlow]) -> Option<(usize, usize)>
+    ensures { result ≡ bad_route net.now rows.now }
+{
+    let place = row_of_bad_route(net, rows)?;
+    let row = rows.get(place)?;
+    let hop = hop_fault(net, rows, row)?;
+    Some((place, hop))
+}
+
+#[tactic(auto, unfolding(crate::specs::FileRules::route_fault))]
+fn route_fault(net: &Network, raw: &RawStreams) -> Option<StreamFault>
+    ensures { result ≡ route_fault net.now raw.now }
+{
+    let (place, hop) = bad_route(net, raw.rows.as_slice())?;
+    let row = row_at(raw.curves.len(), place);
+    let hop = hop as u64;
+    Some(StreamFault::Route { row, hop })
+}
+
+fn class_breaks(express_from: u8, curves: &[RawCurve], place: usize, row: &RawFlow) -> bool
+    ensures { result ≡ class_breaks express_from curves.now place row.now }
+{
+    if place < curves.len() {
+        row.prio.is_below(u64::from(express_from))
+    } else {
+        !row.prio.is_below(u64::from(express_from))
+    }
+}
+
+fn bad_class(express_from: u8, curves: &[RawCurve], rows: &[RawFlow]) -> Option<usize>
+    ensures { result ≡ first_row (class_breaks express_from curves.now) rows.now }
+{
+    rows.iter().enumerate().position(|(place, row)| class_breaks(express_from, curves, place, row))
+}
+
+#[tactic(auto, unfolding(crate::specs::FileRules::class_fault))]
+fn class_fault(net: &Network, raw: &RawStreams) -> Option<StreamFault>
+    ensures { result ≡ class_fault net.now raw.now }
+{
+    let place = bad_class(net.express_from, raw.curves.as_slice(), raw.rows.as_slice())?;
+    let row = row_at(raw.curves.len(), place);
+    Some(StreamFault::Class { row })
+}
+
+fn curve_in_range(curve: &RawCurve) -> bool
+    ensures { result ≡ curve_in_range curve.now }
+{
+    curve.burst.is_within(84, 1_000_000_000) && curve.rate.is_within(1, 1_000_000)
+}
+
+fn length_in_range(count: usize) -> bool
+    ensures { result ≡ length_in_range count }
+{
+    2 <= count && count <= 17
+}
+
+fn row_in_range(row: &RawFlow) -> bool
+    ensures { result ≡ row_in_range row.now }
+{
+    row.vid.is_within(1, 4094)
+        && row.prio.is_within(0, 7)
+        && length_in_range(row.route.len())
+        && row.max.is_within(64, 1522)
+}
+
+fn has_curve_in_range(curves: &[RawCurve], place: usize) -> bool
+    ensures { result ≡ option_map_or curve_in_range (slice_get curves.now place) true }
+{
+    match curves.get(place) {
+        None => true,
+        Some(curve) => curve_in_range(curve),
+    }
+}
+
+fn range_breaks(curves: &[RawCurve], place: usize, row: &RawFlow) -> bool
+    ensures { result ≡ range_breaks curves.now place row.now }
+{
+    !(row_in_range(row) && has_curve_in_range(curves, place))
+}
+
+fn bad_range(curves: &[RawCurve], rows: &[RawFlow]) -> Option<usize>
+    ensures { result ≡ first_row (range_breaks curves.now) rows.now }
+{
+    rows.iter()
+        .enumerate()
+        .position(|(place, row)| range_breaks(curves, place, row))
+}
+
+#[tactic(auto, unfolding(crate::specs::FileRules::range_fault))]
+fn range_fault(raw: &RawStreams) -> Option<StreamFault>
+    ensures { result ≡ range_fault raw.now }
+{
+    let place = bad_range(raw.curves.as_slice(), raw.rows.as_slice())?;
+    let row = row_at(raw.curves.len(), place);
+    Some(StreamFault::Range { row })
+}
+
+fn has_no_room(burst: u64, max: u64) -> bool
+    ensures { result ≡ nat_lt burst (max + 20) }
+{
+    burst < 20 || burst - 20 < max
+}
+
+fn burst_breaks(curves: &[RawCurve], place: usize, row: &RawFlow) -> bool
+    ensures { result ≡ burst_breaks curves.now place row.now }
+{
+    match curves.get(place) {
+        None => false,
+        Some(curve) => has_no_room(curve.burst.natural(), row.max.natural()),
+    }
+}
+
+fn bad_burst(curves: &[RawCurve], rows: &[RawFlow]) -> Option<usize>
+    ensures { result ≡ first_row (burst_breaks curves.now) rows.now }
+{
+    rows.iter()
+        .enumerate()
+        .position(|(place, row)| burst_breaks(curves, place, row))
+}
+
+#[tactic(auto, unfolding(crate::specs::FileRules::burst_fault))]
+fn burst_fault(raw: &RawStreams) -> Option<StreamFault>
+    ensures { result ≡ burst_fault raw.now }
+{
+    let place = bad_burst(raw.curves.as_slice(), raw.rows.as_slice())?;
+    let row = row_at(raw.curves.len(), place);
+    Some(StreamFault::Burst { row })
+}
+
+fn counts_hold(raw: &RawStreams) -> bool
+    ensures { result ≡ counts_hold raw.now }
+{
+    let streams = raw.curves.len();
+    let rows = raw.rows.len();
+    streams <= 256 && rows <= streams + 256
+}
+
+/// The first fault, by rule and then by row.
+pub(crate) fn raw_fault(net: &Network, raw: &RawStreams) -> Option<StreamFault>
+    ensures { result ≡ raw_fault net.now raw.now }
+{
+    if let Some(fault) = name_fault(raw) {
+        return Some(fault);
+    }
+    if let Some(fault) = route_fault(net, raw) {
+        return Some(fault);
+    }
+    if let Some(fault) = class_fault(net, raw) {
+        return Some(fault);
+    }
+    if let Some(fault) = range_fault(raw) {
+        return Some(fault);
+    }
+    if let Some(fault) = burst_fault(raw) {
+        return Some(fault);
+    }
+    if counts_hold(raw) {
+        None
+    } else {
+        Some(StreamFault::Count)
+    }
+}

@@ -1,0 +1,185 @@
+ghost use Rattle.std.specs.Prelude.{◌≡◌, ◌==◌, ◌+◌, ◌<◌, ◌^◌, length, option_map, position, is_some, not};
+ghost use Rattle.std.specs.List.{list_any, find, common_prefix_len};
+ghost use Rattle.std.specs.Str.{bytes_eq};
+ghost use Rattle.pre_table.specs.FirstFaults.{first_row};
+ghost use Rattle.pre_streams.specs.FileRules.{has_name, node_place, is_station, is_station_at, leads, arc_place, is_end, is_linked, is_reached, has_kind_for, entry_breaks, difference, has_vid, other_route, hop_fault};
+
+use crate::raw::RawFlow;
+use pre_base::Name;
+use pre_table::Whole;
+use pre_topo::{Arc, Network, Node, NodeKind};
+
+pub(crate) fn is_same(a: &Name, b: &Name) -> bool
+    ensures { result ≡ bytes_eq a.now b.now }
+{
+    a.as_str() == b.as_str()
+}
+
+fn place_in(nodes: &[Node], name: &Name) -> Option<usize>
+    ensures { result ≡ position (has_name name.now) nodes.now }
+{
+    nodes.iter().position(|node| is_same(&node.name, name))
+}
+
+/// The place of the node of this name.
+pub(crate) fn node_place(net: &Network, name: &Name) -> Option<usize>
+    ensures { result ≡ node_place net.now name.now }
+{
+    place_in(net.nodes.as_slice(), name)
+}
+
+fn is_station(kind: NodeKind) -> bool
+    ensures { result ≡ is_station kind }
+{
+    match kind {
+        NodeKind::Station => true,
+        NodeKind::Bridge => false,
+    }
+}
+
+fn is_station_at(net: &Network, node: usize) -> bool
+    ensures { result ≡ is_station_at net.now node }
+{
+    match net.nodes.as_slice().get(node) {
+        None => false,
+        Some(node) => is_station(node.kind),
+    }
+}
+
+fn leads(arc: &Arc, from: usize, to: usize) -> bool
+    ensures { result ≡ leads from to arc.now }
+{
+    usize::from(arc.from.0) == from && usize::from(arc.to.0) == to
+}
+
+fn arc_in(arcs: &[Arc], from: usize, to: usize) -> Option<usize>
+    ensures { result ≡ position (leads from to) arcs.now }
+{
+    arcs.iter().position(|arc| leads(arc, from, to))
+}
+
+/// The place of the arc from one node to another.
+pub(crate) fn arc_place(net: &Network, from: usize, to: usize) -> Option<usize>
+    ensures { result ≡ arc_place net.now from to }
+{
+    arc_in(net.arcs.as_slice(), from, to)
+}
+
+fn is_end(route: &[Name], hop: usize) -> bool
+    requires { hop < length route.now }
+    ensures { result ≡ is_end route.now hop }
+{
+    hop == 0 || hop + 1 == route.len()
+}
+
+fn is_linked(net: &Network, from: &Name, to: &Name) -> bool
+    ensures { result ≡ is_linked net.now from.now to.now }
+{
+    match node_place(net, from) {
+        None => false,
+        Some(from) => match node_place(net, to) {
+            None => false,
+            Some(to) => arc_place(net, from, to).is_some(),
+        },
+    }
+}
+
+fn is_reached(net: &Network, route: &[Name], hop: usize, name: &Name) -> bool
+    ensures { result ≡ is_reached net.now route.now hop name.now }
+{
+    if hop == 0 {
+        return true;
+    }
+    match route.get(hop - 1) {
+        None => false,
+        Some(before) => is_linked(net, before, name),
+    }
+}
+
+fn has_kind_for(net: &Network, route: &[Name], hop: usize, name: &Name) -> bool
+    requires { hop < length route.now }
+    ensures { result ≡ has_kind_for net.now route.now hop name.now }
+{
+    match node_place(net, name) {
+        None => false,
+        Some(node) => {
+            if is_end(route, hop) {
+                is_station_at(net, node)
+            } else {
+                !is_station_at(net, node)
+            }
+        }
+    }
+}
+
+fn is_visited(entries: &[Name], name: &Name) -> bool
+    ensures { result ≡ list_any (bytes_eq name.now) entries.now }
+{
+    entries.iter().any(|entry| is_same(name, entry))
+}
+
+fn entry_breaks(net: &Network, route: &[Name], hop: usize, name: &Name) -> bool
+    requires { hop < length route.now }
+    ensures { result ≡ entry_breaks net.now route.now hop name.now }
+{
+    !has_kind_for(net, route, hop, name)
+        || is_visited(&route[..hop], name)
+        || !is_reached(net, route, hop, name)
+}
+
+fn bad_entry(net: &Network, route: &[Name]) -> Option<usize>
+    ensures { result ≡ first_row (entry_breaks net.now route.now) route.now }
+{
+    route
+        .iter()
+        .enumerate()
+        .position(|(hop, name)| entry_breaks(net, route, hop, name))
+}
+
+fn common_len(a: &[Name], b: &[Name]) -> usize
+    ensures { result ≡ common_prefix_len bytes_eq a.now b.now }
+{
+    let shorter = a.len().min(b.len());
+    for hop in 0..shorter {
+        if !is_same(&a[hop], &b[hop]) {
+            return hop;
+        }
+    }
+    shorter
+}
+
+fn difference(a: &[Name], b: &[Name]) -> Option<usize>
+    ensures { result ≡ difference a.now b.now }
+{
+    let common = common_len(a, b);
+    if common == a.len() && common == b.len() {
+        None
+    } else {
+        Some(common)
+    }
+}
+
+fn first_of_vid(rows: &[RawFlow], vid: Whole) -> Option<&RawFlow>
+    ensures { option_map (λ r. r.now) result ≡ find (has_vid vid) rows.now }
+{
+    rows.iter().find(|row| row.vid.is(vid))
+}
+
+fn other_route(rows: &[RawFlow], row: &RawFlow) -> Option<usize>
+    ensures { result ≡ other_route rows.now row.now }
+{
+    match first_of_vid(rows, row.vid) {
+        None => None,
+        Some(first) => difference(first.route.as_slice(), row.route.as_slice()),
+    }
+}
+
+/// The first entry of the row's route that breaks a rule.
+pub(crate) fn hop_fault(net: &Network, rows: &[RawFlow], row: &RawFlow) -> Option<usize>
+    ensures { result ≡ hop_fault net.now rows.now row.now }
+{
+    if let Some(hop) = bad_entry(net, row.route.as_slice()) {
+        return Some(hop);
+    }
+    other_route(rows, row)
+}

@@ -1,0 +1,4 @@
+mod Texts
+mod Known
+mod Gathered
+mod Elements

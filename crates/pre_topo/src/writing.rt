@@ -1,0 +1,158 @@
+ghost use Rattle.std.specs.Prelude.{◌<◌};
+ghost use Rattle.pre_base.specs.Faults.{HasCause};
+
+use crate::names::name_of;
+use crate::{Arc, Mode, Network, Node, NodeKind, Policy, Timing};
+use pre_base::{Failed, Sink};
+use pre_text::{Word, put_word};
+
+fn kind_word(kind: NodeKind) -> &'static [u8] {
+    match kind {
+        NodeKind::Station => b"station",
+        NodeKind::Bridge => b"bridge",
+    }
+}
+
+fn mode_word(mode: Mode) -> &'static [u8] {
+    match mode {
+        Mode::Off => b"off",
+        Mode::On => b"on",
+        Mode::Negotiate => b"negotiate",
+    }
+}
+
+fn policy_word(policy: Policy) -> &'static [u8] {
+    match policy {
+        Policy::Pass => b"pass",
+        Policy::Quiet => b"quiet",
+    }
+}
+
+/// Writes words with nothing between them.
+fn put_words<S: Sink>(sink: &mut S, words: &[Word]) -> Result<(), Failed>
+    ensures { HasCause (S.faults sink.old) (S.faults sink.new) result }
+{
+    for word in words {
+        put_word(sink, word)?;
+    }
+    Ok(())
+}
+
+fn put_head<S: Sink>(sink: &mut S, express_from: u8, timing: &Timing) -> Result<(), Failed>
+    ensures { HasCause (S.faults sink.old) (S.faults sink.new) result }
+{
+    put_words(
+        sink,
+        &[
+            Word::Octets(b"express_from = "),
+            Word::Number(u64::from(express_from)),
+            Word::Octets(b"\n\n[timing]\ninterval = "),
+            Word::Number(timing.interval),
+            Word::Octets(b"\nttl = "),
+            Word::Number(timing.ttl),
+            Word::Octets(b"\nunit = "),
+            Word::Number(timing.unit),
+            Word::Octets(b"\nverify = "),
+            Word::Number(timing.verify),
+            Word::Octets(b"\n"),
+        ],
+    )
+}
+
+fn put_node<S: Sink>(sink: &mut S, node: &Node) -> Result<(), Failed>
+    ensures { HasCause (S.faults sink.old) (S.faults sink.new) result }
+{
+    put_words(
+        sink,
+        &[
+            Word::Octets(b"\n[[node]]\nname = \""),
+            Word::Octets(node.name.as_str().as_bytes()),
+            Word::Octets(b"\"\nkind = \""),
+            Word::Octets(kind_word(node.kind)),
+            Word::Octets(b"\"\nlatency = "),
+            Word::Number(node.latency),
+            Word::Octets(b"\n"),
+        ],
+    )
+}
+
+fn put_nodes<S: Sink>(sink: &mut S, nodes: &[Node]) -> Result<(), Failed>
+    ensures { HasCause (S.faults sink.old) (S.faults sink.new) result }
+{
+    for node in nodes {
+        put_node(sink, node)?;
+    }
+    Ok(())
+}
+
+fn ring(arc: &Arc, prio: usize) -> Word<'static, 'static>
+    requires { prio < 8 }
+{
+    Word::Number(u64::from(arc.rings[prio]))
+}
+
+fn put_link<S: Sink>(sink: &mut S, nodes: &[Node], arc: &Arc) -> Result<(), Failed>
+    ensures { HasCause (S.faults sink.old) (S.faults sink.new) result }
+{
+    let comma = Word::Octets(b", ");
+    put_words(
+        sink,
+        &[
+            Word::Octets(b"\n[[link]]\nends = [\""),
+            Word::Octets(name_of(nodes, arc.from)),
+            Word::Octets(b"\", \""),
+            Word::Octets(name_of(nodes, arc.to)),
+            Word::Octets(b"\"]\ncost = "),
+            Word::Number(arc.cost),
+            Word::Octets(b"\ndelay = "),
+            Word::Number(arc.delay),
+            Word::Octets(b"\nmode = \""),
+            Word::Octets(mode_word(arc.mode)),
+            Word::Octets(b"\"\npolicy = \""),
+            Word::Octets(policy_word(arc.policy)),
+            Word::Octets(b"\"\nadd_frag = "),
+            Word::Number(u64::from(arc.add_frag)),
+            Word::Octets(b"\nrings = ["),
+            ring(arc, 0),
+            comma,
+            ring(arc, 1),
+            comma,
+            ring(arc, 2),
+            comma,
+            ring(arc, 3),
+            comma,
+            ring(arc, 4),
+            comma,
+            ring(arc, 5),
+            comma,
+            ring(arc, 6),
+            comma,
+            ring(arc, 7),
+            Word::Octets(b"]\n"),
+        ],
+    )
+}
+
+fn put_links<S: Sink>(sink: &mut S, nodes: &[Node], arcs: &[Arc]) -> Result<(), Failed>
+    ensures { HasCause (S.faults sink.old) (S.faults sink.new) result }
+{
+    let mut rest = arcs;
+    while let [arc, _, ..] = rest {
+        put_link(sink, nodes, arc)?;
+        rest = &rest[2..];
+    }
+    Ok(())
+}
+
+/// Writes the network as a file in TOML, which `read_network` reads as the same network.
+///
+/// # Errors
+///
+/// `Failed` only where the sink failed.
+pub fn put_network<S: Sink>(net: &Network, sink: &mut S) -> Result<(), Failed>
+    ensures { HasCause (S.faults sink.old) (S.faults sink.new) result }
+{
+    put_head(sink, net.express_from, &net.timing)?;
+    put_nodes(sink, net.nodes.as_slice())?;
+    put_links(sink, net.nodes.as_slice(), net.arcs.as_slice())
+}
