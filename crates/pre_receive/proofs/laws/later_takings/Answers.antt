@@ -1,0 +1,5 @@
+use Rattle.pre_receive.proofs.LaterTaken.{taken_later}
+use Rattle.pre_receive.proofs.laws.later_takings.Goals as goal
+
+pub returns : goal.returns
+returns c = taken_later c.packet_laws.ensures

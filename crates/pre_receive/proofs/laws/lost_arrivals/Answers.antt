@@ -1,0 +1,5 @@
+use Rattle.pre_receive.proofs.Lost.{stands_lost}
+use Rattle.pre_receive.proofs.laws.lost_arrivals.Goals as goal
+
+pub returns : goal.returns
+returns c = stands_lost c.packet_laws.ensures

@@ -1,0 +1,38 @@
+-- What holds of mPackets and of lists of arrivals, as it is used here.
+use Rattle.std.specs.Prelude.{◌≡◌, ◌≢◌, ◌↔◌, ℕ, ◌+◌, ◌%◌, ◌<◌, ◌≤◌, List, [], ◌∷◌, ◌++◌, length, Option, Some}
+use Rattle.pre_crc.specs.Checks.{Fcs, Mcrc}
+use Rattle.pre_mpacket.specs.declared.packets.Kind.TheVariants as kind
+use Rattle.pre_mpacket.specs.Spelling.{PlainPacket, Spells, mpacket_of}
+use Rattle.pre_mpacket.specs.Arrivals.{Given, is_fragment, Gives, EndsChain, HasKind, IsOpenBefore}
+use Rattle.pre_mpacket.specs.Open.{IsOpen}
+use Rattle.pre_mpacket.specs.Counters.{CountersOf}
+
+pub record PacketLaws : Type 0 where
+  pub spelled : (m : PlainPacket) (octets : List ℕ) → (mpacket_of octets ≡ Some m) ↔ Spells m octets
+  pub one_given : (A : List (Option (List ℕ))) (i : ℕ) (g h : Given) → Gives A i g → Gives A i h → g ≡ h
+  pub later_given : (A B : List (Option (List ℕ))) (i : ℕ) (g : Given) → i < length A → Gives (A ++ B) i g ↔ Gives A i g
+  pub start_joins : (A : List (Option (List ℕ))) (octets all : List ℕ) (m : PlainPacket) (c : ℕ)
+      → Spells m octets → m.kind ≡ kind.Start c
+      → EndsChain (A ++ Some octets ∷ []) (length A) all ↔ ((all ≡ m.mdata) × (length all ≤ 1518))
+  pub continuation_joins : (A : List (Option (List ℕ))) (octets all : List ℕ) (m : PlainPacket) (c n : ℕ)
+      → Spells m octets → m.kind ≡ kind.Continue c n
+      → EndsChain (A ++ Some octets ∷ []) (length A) all
+      ↔ ((before : List ℕ) × IsOpen A c n before × (all ≡ before ++ m.mdata) × (length all ≤ 1518))
+  pub start_opens : (A : List (Option (List ℕ))) (octets all : List ℕ) (m : PlainPacket) (c d n : ℕ)
+      → Spells m octets → m.kind ≡ kind.Start c
+      → IsOpen (A ++ Some octets ∷ []) d n all
+      ↔ ((d ≡ c) × (n ≡ 0) × EndsChain (A ++ Some octets ∷ []) (length A) all × (m.check ≡ Mcrc all))
+  pub continuation_opens : (A : List (Option (List ℕ))) (octets all : List ℕ) (m : PlainPacket) (c i d n : ℕ)
+      → Spells m octets → m.kind ≡ kind.Continue c i
+      → IsOpen (A ++ Some octets ∷ []) d n all
+      ↔ ((d ≡ c) × (n ≡ (i + 1) % 4) × EndsChain (A ++ Some octets ∷ []) (length A) all × (m.check ≡ Mcrc all))
+  pub other_opens : (A : List (Option (List ℕ))) (arrival : Option (List ℕ)) (d n : ℕ) (all : List ℕ)
+      → ¬ HasKind (A ++ arrival ∷ []) is_fragment (length A)
+      → IsOpen (A ++ arrival ∷ []) d n all ↔ IsOpen A d n all
+  pub one_open : (A : List (Option (List ℕ))) (c d m n : ℕ) (xs ys : List ℕ)
+      → IsOpen A c m xs → IsOpen A d n ys → (c ≡ d) × (m ≡ n) × (xs ≡ ys)
+  pub open_before : (A : List (Option (List ℕ)))
+      → IsOpenBefore A (length A) ↔ ((c : ℕ) × (n : ℕ) × (octets : List ℕ) × IsOpen A c n octets)
+  pub later_counts : (A B : List (Option (List ℕ))) (n a b c d : ℕ)
+      → n ≤ length A → CountersOf (A ++ B) n a b c d ↔ CountersOf A n a b c d
+  pub checks_differ : (octets : List ℕ) → Fcs octets ≢ Mcrc octets

@@ -1,0 +1,24 @@
+-- What a receiver answers to an arrival.
+use Rattle.std.specs.Prelude.{ℕ, List, Option}
+use Rattle.pre_mpacket.specs.Arrivals.{Given, Gives, GivesNothing}
+use Rattle.pre_receive.specs.declared.taken.Cause.{Cause}
+use Rattle.pre_receive.specs.declared.taken.Taken.{Taken}
+use Rattle.pre_receive.specs.declared.taken.Taken.TheVariants as taken
+use Rattle.pre_receive.specs.Causes.{IsCause}
+
+-- an answer as a plain value
+pub data Taking : Type 0 where
+  gave : Given → Taking
+  gave_nothing : Cause → Taking
+
+abbrev pub plain : Taken → Taking
+plain (taken.Frame octets) = gave (Given.frame octets.now)
+plain taken.Verify = gave Given.verify
+plain taken.Respond = gave Given.respond
+plain taken.Part = gave Given.part
+plain (taken.Nothing c) = gave_nothing c
+
+-- It is what arrival i gives, and where that is nothing the cause of its first reason.
+abbrev pub IsTaken : List (Option (List ℕ)) → ℕ → Taking → Type 0
+IsTaken A i (gave g) = Gives A i g
+IsTaken A i (gave_nothing c) = GivesNothing A i × IsCause A i c
