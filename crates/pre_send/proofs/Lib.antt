@@ -1,0 +1,5 @@
+pub mod Standing
+pub mod Beginning
+pub mod Waiting
+pub mod Ending
+pub mod Framed

@@ -1,0 +1,11 @@
+pub mod Calls
+pub mod Sendings
+pub mod Cuts
+pub mod Plans
+pub mod Tasks
+pub mod Fragments
+pub mod Goings
+pub mod Answers
+pub mod Senders
+pub mod Endings
+pub mod Frames

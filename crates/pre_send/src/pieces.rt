@@ -1,0 +1,120 @@
+ghost use Rattle.std.specs.Prelude.{◌≡◌, ℕ, ◌+◌, ◌-◌, ◌*◌, ◌^◌, ◌≤◌, ◌<◌, Option, None, Some, MatchOption};
+ghost use Rattle.std.specs.Option.{ForSome};
+ghost use Rattle.pre_send.specs.Cuts.{IsFirstCut};
+
+use pre_crc::Running;
+use pre_mpacket::Kind;
+use pre_rings::FrameRef;
+
+/// The octets of a check.
+pub(crate) const CHECK: u16 = 4;
+
+/// The octets of an mPacket before its mData.
+pub(crate) const HEAD: u64 = 8;
+
+/// The least octets of a last fragment, its check included.
+const LAST: u64 = 64;
+
+/// A frame that is sent in fragments, and how far it is.
+#[derive(Debug, Drop)]
+pub(crate) struct Piece {
+    pub frame: FrameRef,
+    /// The place from which its next fragment is.
+    pub from: u16,
+    pub frame_count: u8,
+    /// The fragment count of its next continuation.
+    pub fragment: u8,
+    /// The check of its octets before that place.
+    pub check: Running,
+    /// The octets of mData after which the fragment is cut.
+    pub cut: Option<u16>,
+    ghost size_within: { frame.size ≤ 1522 },
+    ghost last_within: { from + 64 ≤ frame.size },
+    ghost cut_within: { ForSome cut (λ d. from + d + 64 ≤ frame.size) },
+    ghost cut_least: { ForSome cut (λ d. 60 ≤ d) },
+    ghost counts_within: { frame_count < 4 },
+    ghost fragments_within: { fragment < 4 },
+}
+
+impl Piece {
+    ghost use Rattle.pre_send.specs.Plans.{piece_kind, piece_size, PieceTold};
+
+    /// Its kind as an mPacket.
+    pub fn kind(&self) -> Kind
+        ensures { result ≡ piece_kind self.now }
+    {
+        if self.from == 0 {
+            Kind::Start(self.frame_count)
+        } else {
+            Kind::Continue(self.frame_count, self.fragment)
+        }
+    }
+
+    /// The octets of the fragment, its check included, as it is planned.
+    pub fn size(&self) -> u16
+        ensures { result ≡ piece_size self.now }
+    {
+        match self.cut {
+            Some(mdata) => mdata + CHECK,
+            None => self.frame.size - self.from,
+        }
+    }
+
+    /// The same, where its fragment began at a tick, and an express frame waits from a tick on.
+    pub fn told(self, began: u64, waits: u64, cost: u64, add_frag: u8) -> Piece
+        requires cost { 1 ≤ cost }
+        requires most { cost ≤ 1000 }
+        requires add_frag { add_frag ≤ 3 }
+        requires waits { waits ≤ 10 ^ 18 }
+        ensures { PieceTold self result began waits cost add_frag }
+    {
+        let Piece {
+            frame,
+            from,
+            frame_count,
+            fragment,
+            check,
+            cut: _,
+        } = self;
+        let cut = first_cut(began, waits, cost, add_frag, frame.size - from);
+        Piece {
+            frame,
+            from,
+            frame_count,
+            fragment,
+            check,
+            cut,
+        }
+    }
+}
+
+/// The octets of mData after which a fragment that began at a tick is cut, where an express frame waits from a later tick
+/// on, and so many octets of its frame are unsent.
+pub(crate) fn first_cut(began: u64, waits: u64, cost: u64, add_frag: u8, unsent: u16) -> Option<u16>
+    requires cost { 1 ≤ cost }
+    requires most { cost ≤ 1000 }
+    requires add_frag { add_frag ≤ 3 }
+    requires waits { waits ≤ 10 ^ 18 }
+    requires unsent { unsent ≤ 1522 }
+    ensures { IsFirstCut began waits cost add_frag unsent result }
+{
+    let least = LAST * (1 + u64::from(add_frag)) - u64::from(CHECK);
+    let mdata = least.max(octets_by(began, waits, cost).saturating_sub(HEAD));
+    if mdata + LAST <= u64::from(unsent) {
+        Some(mdata as u16)
+    } else {
+        None
+    }
+}
+
+// The octet times from one tick until another, or until the first octet that ends at it or later.
+fn octets_by(began: u64, waits: u64, cost: u64) -> u64
+    requires cost { 1 ≤ cost }
+    requires most { cost ≤ 1000 }
+    requires waits { waits ≤ 10 ^ 18 }
+    ensures late { waits ≤ began + cost * result }
+    ensures least { (n : ℕ) → waits ≤ began + cost * n → result ≤ n }
+    ensures within { result ≤ 10 ^ 18 }
+{
+    waits.saturating_sub(began).div_ceil(cost)
+}
