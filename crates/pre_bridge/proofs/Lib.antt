@@ -1,0 +1,9 @@
+pub mod Lists
+pub mod Queues
+pub mod Dues
+pub mod Firsts
+pub mod Results
+pub mod Standing
+pub mod Line
+pub mod TurnLemmas
+pub mod NextArcs

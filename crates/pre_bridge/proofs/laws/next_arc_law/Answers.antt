@@ -1,0 +1,9 @@
+use Rattle.pre_bridge.proofs.NextArcs.{found_arc, missing_arc, only_arc}
+use Rattle.pre_bridge.proofs.laws.next_arc_law.Goals as goal
+
+pub returns : goal.returns
+returns c = record {
+  found = found_arc;
+  missing = missing_arc;
+  only = only_arc;
+}

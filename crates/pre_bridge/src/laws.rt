@@ -1,0 +1,44 @@
+ghost use Rattle.std.specs.Prelude.{◌≡◌, ◌<◌, ◌↔◌, ℕ, List, [], ◌∷◌, ◌++◌, All, None, Some};
+ghost use Rattle.pre_base.specs.declared.numbers.NodeId.{NodeId};
+ghost use Rattle.pre_base.specs.declared.numbers.ArcId.{ArcId};
+ghost use Rattle.pre_topo.specs.declared.network.Network.{Network};
+ghost use Rattle.pre_streams.specs.declared.rows.Row.{Row};
+ghost use Rattle.pre_streams.specs.declared.rows.Streams.{Streams};
+ghost use Rattle.pre_streams.specs.Hops.{VidTakesArc};
+ghost use Rattle.pre_streams.specs.Fits.{Fits};
+ghost use Rattle.pre_bridge.specs.declared.relays.Relay.{Relay};
+ghost use Rattle.pre_bridge.specs.Table.{next_arc};
+ghost use Rattle.pre_bridge.specs.Inside.{Call, Entry, taken, inside, leaving, last_kept, has_room};
+ghost use Rattle.pre_bridge.specs.Turns.{IsTurn};
+ghost use Rattle.pre_bridge.specs.Relays.{Stands, has_space};
+
+/// What the calls for which a relay stands say of what its other calls require.
+pub fn calls_law()
+    ensures latest { (relay : Relay) (net : Network) (streams : Streams) (calls : List Call) → Stands relay net streams calls
+        → relay.latest.0 ≡ last_kept net streams calls }
+    ensures space { (relay : Relay) (net : Network) (streams : Streams) (calls : List Call) (arc : ℕ) → Stands relay net streams calls
+        → has_space relay arc ≡ has_room net streams calls arc }
+{}
+
+/// A frame comes out of the first take at or after the end of its latency at which no due frame of a
+/// lesser arriving arc and no earlier frame of its own arc is inside, and then all others stay. Nothing
+/// comes out exactly where none is due.
+pub fn turn_law()
+    ensures comes_out { (net : Network) (streams : Streams) (calls : List Call) (t : ℕ) (before behind : List Entry) (entry : Entry)
+        → inside net streams calls ≡ before ++ entry ∷ behind → IsTurn t before entry behind
+        → (leaving t (inside net streams calls) ≡ Some entry) × (inside net streams (calls ++ taken t ∷ []) ≡ before ++ behind) }
+    ensures turn { (relay : Relay) (net : Network) (streams : Streams) (calls : List Call) (t : ℕ) (entry : Entry) → Stands relay net streams calls
+        → leaving t (inside net streams calls) ≡ Some entry
+        → (before : List Entry) × (behind : List Entry) × (inside net streams calls ≡ before ++ entry ∷ behind) × IsTurn t before entry behind }
+    ensures none { (relay : Relay) (net : Network) (streams : Streams) (calls : List Call) (t : ℕ) → Stands relay net streams calls
+        → (leaving t (inside net streams calls) ≡ None) ↔ All (λ entry. t < entry.due) (inside net streams calls) }
+{}
+
+/// The arc by which a frame leaves is the one that the streams' table gives, and where the streams fit a
+/// network it is the only one.
+pub fn next_arc_law()
+    ensures found { (rows : List Row) (node : NodeId) (vid : ℕ) (arc : ArcId) → next_arc rows node vid ≡ Some arc → VidTakesArc rows node vid arc }
+    ensures missing { (rows : List Row) (node : NodeId) (vid : ℕ) (arc : ArcId) → next_arc rows node vid ≡ None → ¬ VidTakesArc rows node vid arc }
+    ensures only { (net : Network) (streams : Streams) (node : NodeId) (vid : ℕ) (arc : ArcId) → Fits net streams
+        → VidTakesArc streams.rows node vid arc → next_arc streams.rows node vid ≡ Some arc }
+{}
