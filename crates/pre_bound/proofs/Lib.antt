@@ -1,0 +1,8 @@
+pub mod Solved
+pub mod Sums
+pub mod Hops
+pub mod Within
+pub mod AtLeast
+pub mod Settling
+pub mod Placed
+pub mod Ordered

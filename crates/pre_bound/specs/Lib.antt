@@ -1,0 +1,15 @@
+pub mod Limits
+pub mod Solutions
+pub mod Uses
+pub mod Along
+pub mod Values
+pub mod Clauses
+pub mod Good
+pub mod Places
+pub mod Listed
+pub mod Least
+pub mod Chains
+pub mod Settled
+pub mod Passing
+pub mod Order
+pub mod Promises

@@ -1,0 +1,10 @@
+use Rattle.std.proofs.Common.{◌≡◌, take, map}
+use Rattle.std.specs.Prelude.{filter}
+use Rattle.std.specs.List.{enumerate_from}
+use Rattle.pre_bound.specs.Uses.{is_stream}
+use Rattle.pre_certify.specs.Tables.{delays_in}
+use Rattle.pre_certify.specs.Written.{bound_at}
+use Rattle.pre_certify.proofs.rows.bound_rows.Given as goal
+
+abbrev pub invariant-loop-stream : goal.invariant-loop-stream
+invariant-loop-stream l = l.found ≡ map (bound_at l.net (delays_in l.delays)) (filter (λ e. is_stream e.1) (enumerate_from 0 (take l.stream l.rows)))

@@ -1,0 +1,9 @@
+pub mod Tables
+pub mod Loads
+pub mod Turns
+pub mod Causes
+pub mod Peels
+pub mod Peelings
+pub mod Paths
+pub mod Written
+pub mod Ranked

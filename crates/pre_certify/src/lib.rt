@@ -1,0 +1,56 @@
+//! The least certificate of a network's express streams, or why there is none.
+#![tactic(auto)]
+
+mod certifier;
+mod cycles;
+mod loads;
+mod ports;
+mod ranks;
+mod rings;
+mod rows;
+mod settle;
+mod unfit;
+
+pub use certifier::certify;
+pub use unfit::Unfit;
+
+#[cfg(test)]
+mod tests {
+    use super::*;
+    use pre_base::{ArcId, Prio, StreamId};
+    use pre_bound::{HopRow, PortRow};
+    use std::test::Fail;
+
+    // One stream of burst 2000 and rate 100000 over one arc of one tick an octet, behind a fragment of 143 octets.
+    #[test]
+    fn one_stream(rt: HostRuntime) -> Result<(), Fail> {
+        let net = pre_topo::pair(rt.alloc())?;
+        let streams = pre_streams::pair(rt.alloc())?;
+        let Ok(certificate) = certify(rt.alloc(), &net, &streams) else {
+            assert!(rt; false);
+            return Ok(());
+        };
+        assert_eq!(rt; certificate.ranks.as_slice(), [(ArcId(0), 0)].as_slice());
+        let port = PortRow {
+            arc: ArcId(0),
+            prio: Prio(6),
+            block: 143,
+            work: 2000,
+            rate: 0,
+            delay: 2143,
+            size: 2214,
+        };
+        assert_eq!(rt; certificate.ports.as_slice(), [port].as_slice());
+        let hop = HopRow {
+            stream: StreamId(0),
+            hop: 0,
+            burst: 2000,
+        };
+        assert_eq!(rt; certificate.hops.as_slice(), [hop].as_slice());
+        assert_eq!(rt;
+            certificate.bounds.as_slice(),
+            [(StreamId(0), 2131)].as_slice()
+        );
+        Ok(())
+    }
+}
