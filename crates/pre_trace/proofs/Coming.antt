@@ -18,7 +18,7 @@ use Rattle.pre_trace.specs.LinkState.{Active, ActiveIn}
 use Rattle.pre_trace.specs.Starts.{Item, Choice, There, whole_frame, without_octets, lldp_begins}
 use Rattle.pre_trace.specs.Comings.{Coming, Comings, EntriesOf, entry_event, entry_for, next_arc, hops, first_arc, sends_from, relayed, below, after, frame_at}
 use Rattle.pre_trace.specs.Deliveries.{IsDirect}
-use Rattle.pre_trace.proofs.Lists.{within, every_weaker, every_selected, none_selected}
+use Rattle.pre_trace.proofs.Lists.{within, every_weaker, every_selected, every_filter, filter_nil, none_selected}
 use Rattle.pre_trace.proofs.Fronts.{IsWholeBegin, IsRight, AtFront, at_front_of}
 
 -- ---- what comes to rings
@@ -103,18 +103,6 @@ entries_right w past t direct = entries_from w t past (Comings w past t) (coming
 pub record BeginFacts (w : Scenario) (past : History) (a t : ℕ) (c : Choice) : Type 0 where
   pub whole : is_fragment c.kind ≡ false
   pub front : (f : FrameNo) → c.what ≡ what.Frame f → (c.kind ≡ kind.Express) × (c.from ≡ 0) × ((p : ℕ) × AtFront w past a p t f.0)
-
-filter_nil : {X : Type 0} (test : X → Bool) (xs : List X) → Every (λ x. test x ≡ false) xs → filter test xs ≡ []
-filter_nil test [] none = refl
-filter_nil test (x ∷ xs) (here, more) = rw here (filter_nil test xs more)
-
-every_filter : {X : Type 0} (P : X → Type 0) (test : X → Bool) (xs : List X) → Every P xs → Every P (filter test xs)
-every_filter P test [] p = tt
-every_filter P test (x ∷ xs) (here, more) = go (test x) (every_filter P test xs more)
-  where
-    go : (b : Bool) → Every P (filter test xs) → Every P (if b then x ∷ filter test xs else filter test xs)
-    go true rest = (here, rest)
-    go false rest = rest
 
 every_map : {X Y : Type 0} (P : Y → Type 0) (g : X → Y) (xs : List X) → Every (λ x. P (g x)) xs → Every P (map g xs)
 every_map P g [] p = tt

@@ -60,7 +60,8 @@ nothing_yet w = record {
   apart = λ i j d lt lt'. absurd (omega (arith, lt'));
 }
 
-all_right : OneSpelled → OneGiven → (w : Scenario) → IsDirect w → (n : ℕ) (h : History) → LegalUpTo w n h → AllRight w h
+-- what holds of a direct run holds of each of its legal histories
+pub all_right : OneSpelled → OneGiven → (w : Scenario) → IsDirect w → (n : ℕ) (h : History) → LegalUpTo w n h → AllRight w h
 all_right spelled given w direct zero h is = subst (AllRight w) (sym is) (nothing_yet w)
 all_right spelled given w direct (suc n) h (past, es, is, legal, happens) =
     let t = n / moments (length w.net.arcs) in

@@ -8,7 +8,7 @@ use Rattle.pre_trace.specs.History.{PlainEvent, History, Begin, Ended}
 use Rattle.pre_trace.specs.Selected.{begin_on, ended_on}
 use Rattle.pre_trace.specs.Queries.{Begins, Ends, Packet, Packets, packet, IsUnderWay, Occupied}
 use Rattle.pre_trace.specs.Placed.{IsLater, AllLater}
-use Rattle.pre_trace.proofs.Lists.{any_at, found_at, at_front, every_selected, every_at}
+use Rattle.pre_trace.proofs.Lists.{any_at, found_at, at_front, every_selected, every_filter, every_at}
 use Rattle.pre_trace.proofs.Free.{packet_at}
 
 begin_later : (a t : ℕ) (e : PlainEvent) (b : Begin) → IsLater t e → begin_on a e ≡ Some b → t ≤ b.tick
@@ -43,7 +43,8 @@ end_later a t (PlainEvent.dropped c) b later is = absurd (cc is)
 end_later a t (PlainEvent.count s c) b later is = absurd (cc is)
 end_later a t (PlainEvent.end c) b later is = absurd (cc is)
 
-packet_back : (h : History) (a k : ℕ) (p : Packet) → slice_get (Packets h a) k ≡ Some p → (b : Begin) × (slice_get (Begins h a) k ≡ Some b) × (packet h a b ≡ p)
+-- an mPacket and its `begin` event
+pub packet_back : (h : History) (a k : ℕ) (p : Packet) → slice_get (Packets h a) k ≡ Some p → (b : Begin) × (slice_get (Begins h a) k ≡ Some b) × (packet h a b ≡ p)
 unfolding Packets
 packet_back h a k p at = go (Begins h a) k at
   where
@@ -52,18 +53,10 @@ packet_back h a k p at = go (Begins h a) k at
     go (b ∷ bs) zero at = (b, refl, cc at)
     go (b ∷ bs) (suc k) at = go bs k at
 
-split_at : {X : Type 0} (xs ys : List X) (k : ℕ) (x : X) → slice_get (xs ++ ys) k ≡ Some x → (slice_get xs k ≡ Some x) ⊎ ((j : ℕ) × (slice_get ys j ≡ Some x))
+pub split_at : {X : Type 0} (xs ys : List X) (k : ℕ) (x : X) → slice_get (xs ++ ys) k ≡ Some x → (slice_get xs k ≡ Some x) ⊎ ((j : ℕ) × (slice_get ys j ≡ Some x))
 split_at [] ys k x at = inr (k, at)
 split_at (z ∷ xs) ys zero x at = inl at
 split_at (z ∷ xs) ys (suc k) x at = split_at xs ys k x at
-
-every_filter : {X : Type 0} (P : X → Type 0) (test : X → Bool) (xs : List X) → Every P xs → Every P (filter test xs)
-every_filter P test [] p = tt
-every_filter P test (x ∷ xs) (here, more) = go (test x) (every_filter P test xs more)
-  where
-    go : (b : Bool) → Every P (filter test xs) → Every P (if b then x ∷ filter test xs else filter test xs)
-    go true rest = (here, rest)
-    go false rest = rest
 
 module _ (t gap : ℕ) where
   more_ends : (us vs : List Ended) → Every (λ (e : Ended). t < e.tick) vs → MatchOption (slice_get us 0) ⊤ (λ e. t < e.tick + gap) → MatchOption (slice_get (us ++ vs) 0) ⊤ (λ e. t < e.tick + gap)

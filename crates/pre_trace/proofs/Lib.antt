@@ -23,6 +23,8 @@ pub mod Coming
 pub mod Keeping
 pub mod Delivering
 pub mod DeliveredOnce
+pub mod Carrying
+pub mod DirectArrivals
 pub mod NameWords
 pub mod Lines
 pub mod PairFacts
@@ -33,4 +35,9 @@ pub mod Decided
 pub mod TwoFrames
 pub mod TwoFramesLegal
 pub mod LaterEnds
+pub mod Chosen
+pub mod Unread
+pub mod ToldActive
+pub mod LinkTests
 pub mod Making
+pub mod OctetLists

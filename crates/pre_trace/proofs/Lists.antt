@@ -1,6 +1,6 @@
 -- Elements of lists by their places, and of selections.
-use Rattle.std.proofs.Common.{ℕ, zero, suc, ◌≡◌, ◌⊎◌, ◌<◌, List, [], ◌∷◌, ◌++◌, length, refl, ap, inl, inr, arith, subst, Option, Some, None, filter_map}
-use Rattle.std.specs.Prelude.{slice_get, slice_index_or, Any}
+use Rattle.std.proofs.Common.{ℕ, zero, suc, ◌≡◌, ◌⊎◌, ◌<◌, Bool, true, false, List, [], ◌∷◌, ◌++◌, length, refl, ap, inl, inr, arith, subst, Option, Some, None, filter, filter_map}
+use Rattle.std.specs.Prelude.{if◌then◌else◌, slice_get, slice_index_or, Any}
 use Rattle.std.specs.List.{AllByRecursion as Every, cons_option}
 
 pub at_end : {X : Type 0} (xs : List X) (x y : X) (i : ℕ) → slice_get (xs ++ x ∷ []) i ≡ Some y → (slice_get xs i ≡ Some y) ⊎ ((i ≡ length xs) × (x ≡ y))
@@ -57,6 +57,10 @@ every_at P [] i x p at = absurd (cc at)
 every_at P (y ∷ xs) zero x (here, more) at = subst P (cc at) here
 every_at P (y ∷ xs) (suc i) x (here, more) at = every_at P xs i x more at
 
+pub every_placed : {X : Type 0} (P : X → Type 0) (xs : List X) → ((i : ℕ) (x : X) → slice_get xs i ≡ Some x → P x) → Every P xs
+every_placed P [] says = tt
+every_placed P (x ∷ xs) says = (says 0 x refl, every_placed P xs (λ i y at. says (suc i) y at))
+
 -- what is selected of events with a property
 pub every_selected : {X Y : Type 0} (sel : X → Option Y) (P : X → Type 0) (Q : Y → Type 0) → ((x : X) (y : Y) → P x → sel x ≡ Some y → Q y) → (xs : List X) → Every P xs → Every Q (filter_map sel xs)
 every_selected sel P Q says [] p = tt
@@ -74,3 +78,15 @@ none_selected sel (x ∷ xs) (here, more) = rw here (none_selected sel xs more)
 pub no_append : {X : Type 0} (xs ys : List X) → ys ≡ [] → xs ++ ys ≡ xs
 no_append [] ys none = none
 no_append (x ∷ xs) ys none = ap (λ zs. x ∷ zs) (no_append xs ys none)
+
+pub filter_nil : {X : Type 0} (test : X → Bool) (xs : List X) → Every (λ x. test x ≡ false) xs → filter test xs ≡ []
+filter_nil test [] none = refl
+filter_nil test (x ∷ xs) (here, more) = rw here (filter_nil test xs more)
+
+pub every_filter : {X : Type 0} (P : X → Type 0) (test : X → Bool) (xs : List X) → Every P xs → Every P (filter test xs)
+every_filter P test [] p = tt
+every_filter P test (x ∷ xs) (here, more) = go (test x) (every_filter P test xs more)
+  where
+    go : (b : Bool) → Every P (filter test xs) → Every P (if b then x ∷ filter test xs else filter test xs)
+    go true rest = (here, rest)
+    go false rest = rest

@@ -4,7 +4,6 @@ use Rattle.std.specs.Prelude.{if◌then◌else◌, slice_get, slice_index, slice
 use Rattle.std.specs.List.{AllByRecursion as Every}
 use Rattle.std.proofs.lemmas.Bool.Decides.{nat_tests}
 use Rattle.pre_crc.specs.Checks.{Mcrc}
-use Rattle.pre_frame.specs.Layout.{frame_of}
 use Rattle.pre_topo.specs.declared.arcs.Arc.{Arc}
 use Rattle.pre_mpacket.specs.declared.packets.Kind.TheVariants as kind
 use Rattle.pre_mpacket.specs.Arrivals.{Given, Gives}
@@ -21,7 +20,7 @@ use Rattle.pre_trace.specs.Rules.{EndDue, CheckOf, last_four, HappensIn, deliver
 use Rattle.pre_trace.specs.Legal.{LegalUpTo}
 use Rattle.pre_trace.specs.Examples.{first_send, SendsOneFrame, entered, first_begin, first_end, arrived, delivery, one_frame_body}
 use Rattle.pre_trace.proofs.Spelled.{OneSpelled}
-use Rattle.pre_trace.proofs.Undamaged.{whole_arrives}
+use Rattle.pre_trace.proofs.Undamaged.{user_frame, whole_arrives}
 use Rattle.pre_trace.proofs.Fronts.{IsRight, EntersRight, BeginsRight, IsWholeBegin}
 use Rattle.pre_trace.proofs.Coming.{no_next}
 use Rattle.pre_trace.proofs.PairFacts.{SendsAtStart, cost_one, far_end, first_ab, prio_six, direct, no_delay, next, idle}
@@ -62,16 +61,16 @@ from_one w s = record {
     later t lt = let other : (0 == t) ≡ false = grind (arith, nat_tests) in rw other refl
 
 module _ (w : Scenario) (s : SendsOneFrame w) where
-  pub one_send : length w.script.sends ≡ 1
+  one_send : length w.script.sends ≡ 1
   one_send = ap length s.sends
 
-  pub size_is : (send w 0).send.size ≡ 64
+  size_is : (send w 0).send.size ≡ 64
   size_is = ap (λ (xs : List SendLine). (slice_index_or xs 0 no_send).send.size) s.sends
 
-  pub tick_is : (send w 0).send.tick.0 ≡ 0
+  tick_is : (send w 0).send.tick.0 ≡ 0
   tick_is = ap (λ (xs : List SendLine). (slice_index_or xs 0 no_send).send.tick.0) s.sends
 
-  pub frame_size : length (FrameOf w 0) ≡ 64
+  frame_size : length (FrameOf w 0) ≡ 64
   frame_size = facts.frame_size w (from_one w s) 0 (omega (arith, one_send))
 
   first_not_due : (h : History) (t : ℕ) → t ≢ 72 → (e : PlainEvent) → ¬ EndDue w h t first_begin e
@@ -181,25 +180,17 @@ module _ (w : Scenario) (s : SendsOneFrame w) where
   ends_are zero d at = let same : first_end w ≡ d = cc at in ap (λ (x : Ended). x.ord) (sym same)
   ends_are (suc j) d at = absurd (cc at)
 
-  pub body_ends_are : (j : ℕ) (d : Ended) → slice_get (Ends (one_frame_body w) 0) j ≡ Some d → d.ord ≡ j
-  body_ends_are zero d at = let same : first_end w ≡ d = cc at in ap (λ (x : Ended). x.ord) (sym same)
-  body_ends_are (suc j) d at = absurd (cc at)
-
   module _ (spelled : OneSpelled) where
     gives_frame : Gives (Air w ended 0) 0 (Given.frame (FrameOf w 0))
     gives_frame =
         whole_arrives spelled w ended 0 0 first_begin (first_end w) (record { 0 = 0 }) s.losses s.damages refl refl refl ends_are refl refl refl (sym (frame_size))
         (sym (ap (λ (n : ℕ). if 0 + 64 == n then last_four (FrameOf w 0) else Mcrc (take (0 + 64 - 4) (FrameOf w 0))) (frame_size))) (omega (arith, size_is)) (omega (arith, size_is))
 
-    user_frame : is_lldp_frame (FrameOf w 0) ≡ false
-    unfolding frame_of
-    user_frame = refl
-
     arrives_now : HappensIn w ended 72 (Phase.arrivals 0) (arrived ∷ delivery w ∷ [])
     unfolding HappensIn
     arrives_now =
         let now : 72 + (arc w 0).delay ≡ 72 = omega (arith, no_delay w (from_one w s) 0) in
-        let result : outcome.Frame ≡ (if is_lldp_frame (FrameOf w 0) then outcome.Lldp else outcome.Frame) = ap (λ (b : Bool). if b then outcome.Lldp else outcome.Frame) (sym user_frame) in
+        let result : outcome.Frame ≡ (if is_lldp_frame (FrameOf w 0) then outcome.Lldp else outcome.Frame) = ap (λ (b : Bool). if b then outcome.Lldp else outcome.Frame) (sym (user_frame w 0)) in
         let events : arrived ∷ delivery w ∷ [] ≡ arrived ∷ delivered 72 (arc w 0).to.0 0 (FrameOf w 0) None = ap (λ n. arrived ∷ PlainEvent.deliver (record { tick = 72; node = n; frame = 0; octets = FrameOf w 0 }) ∷ []) (sym (far_end w (from_one w s))) in
         let here = ap (λ o. arrived ∷ delivered 72 (arc w 0).to.0 0 (FrameOf w 0) o) (sym (no_next w (direct w (from_one w s)) 0 0)) in
         (arrived ∷ delivery w ∷ [], [], inl (now, (outcome.Frame, inr (inl (Given.frame (FrameOf w 0), gives_frame, result)), (0, FrameOf w 0, refl, gives_frame, events ∙ here))), refl, refl)

@@ -12,7 +12,7 @@ use Rattle.pre_trace.specs.History.{History}
 use Rattle.pre_trace.specs.Comings.{hops, first_arc}
 use Rattle.pre_trace.specs.Rules.{HappensIn, Happens}
 use Rattle.pre_trace.specs.Legal.{LegalUpTo}
-use Rattle.pre_trace.specs.Deliveries.{IsDirect}
+use Rattle.pre_trace.specs.Deliveries.{IsDirect, IsPlain}
 use Rattle.pre_topo.specs.PairNetwork.{IsPair}
 use Rattle.pre_streams.specs.PairStreams as streams
 use Rattle.pre_trace.specs.Comings.{sends_from}
@@ -79,6 +79,17 @@ module _ (w : Scenario) (s : SendsAtStart w) where
     damages = s.damages;
     sizes = λ f lt. let size = s.size f lt in (omega (arith, size), omega (arith, size));
   }
+
+  pub plain : IsPlain w
+  plain = record {
+    direct = direct;
+    silent = λ a d lt is. go a d (subst (λ n. a < n) two_arcs lt) (sym (ap (λ (xs : List Arc). (slice_index_or xs a d).mode) s.net.arcs) ∙ is);
+  }
+    where
+      go : (a : ℕ) (d : Arc) → a < 2 → (slice_index_or pair_arcs a d).mode ≢ mode.Negotiate
+      go zero d lt e = cc e
+      go (suc zero) d lt e = cc e
+      go (suc (suc a)) d lt e = omega (arith, lt)
 
   -- one more moment
   pub next : (n : ℕ) (past es : History) (t : ℕ) (p : Phase) → moment_at 2 n ≡ record { tick = t; phase = p } → HappensIn w past t p es → LegalUpTo w n past → LegalUpTo w (suc n) (past ++ es)

@@ -1,6 +1,7 @@
 -- Later events leave the octets of an mPacket and its size as they are.
-use Rattle.std.proofs.Common.{ℕ, suc, ◌≡◌, ◌==◌, ◌&&◌, ◌+◌, ◌-◌, ◌*◌, ◌<◌, ◌≤◌, nat_le, Bool, true, false, List, [], ◌++◌, length, refl, sym, ◌∙◌, ap, inl, inr, arith, Some, None, filter_map, take}
+use Rattle.std.proofs.Common.{ℕ, suc, ◌≡◌, ◌==◌, ◌&&◌, ◌+◌, ◌-◌, ◌*◌, ◌<◌, ◌≤◌, nat_le, Bool, true, false, List, ◌++◌, length, refl, sym, ◌∙◌, ap, inl, inr, arith, Some, None, filter_map, take}
 use Rattle.std.specs.Prelude.{if◌then◌else◌, unwrap_or}
+use Rattle.std.specs.List.{AllByRecursion as Every}
 use Rattle.std.proofs.Math.Nat.{mul-le-mul_left}
 use Rattle.std.proofs.lemmas.Bool.{cases_lt}
 use Rattle.std.proofs.lemmas.List.Elements.{filter_map-append}
@@ -44,19 +45,25 @@ untold a t (PlainEvent.dropped e) later = refl
 untold a t (PlainEvent.count b c) later = refl
 untold a t (PlainEvent.end e) later = refl
 
-pub told_later : (w : Scenario) (h es : History) (a t : ℕ) → AllLater (suc t) es → ToldActive w (h ++ es) a t ≡ ToldActive w h a t
-told_later w h es a t later =
-    let none : filter_map (active_on a t) es ≡ [] = none_selected (active_on a t) es (every_weaker (IsLater (suc t)) (λ e. active_on a t e ≡ None) (untold a t) es later) in
-    ap (λ (xs : List Bool). unwrap_or (last xs) false) (filter_map-append (active_on a t) h es ∙ no_append (filter_map (active_on a t) h) (filter_map (active_on a t) es) none)
+-- where no `active` event of the arc up to the tick is added
+pub told_same : (w : Scenario) (h es : History) (a t : ℕ) → Every (λ e. active_on a t e ≡ None) es → ToldActive w (h ++ es) a t ≡ ToldActive w h a t
+told_same w h es a t none =
+    ap (λ (xs : List Bool). unwrap_or (last xs) false) (filter_map-append (active_on a t) h es ∙ no_append (filter_map (active_on a t) h) (filter_map (active_on a t) es) (none_selected (active_on a t) es none))
 
-whole_like : (w : Scenario) (h es : History) (b : Begin) (x : What) → AllLater (suc b.tick) es → whole_of w (h ++ es) b x ≡ whole_of w h b x
-whole_like w h es b (what.Frame f) later = refl
-whole_like w h es b what.Nothing later = refl
-whole_like w h es b what.Lldp later =
-    ap (λ (v : Bool). lldp_frame (arc w b.arc).from.0 b.arc (record (AdvertAt w h b.arc b.tick) { active = v })) (told_later w h es b.arc b.tick later)
+pub told_later : (w : Scenario) (h es : History) (a t : ℕ) → AllLater (suc t) es → ToldActive w (h ++ es) a t ≡ ToldActive w h a t
+told_later w h es a t later = told_same w h es a t (every_weaker (IsLater (suc t)) (λ e. active_on a t e ≡ None) (untold a t) es later)
+
+whole_like : (w : Scenario) (h es : History) (b : Begin) (x : What) → ToldActive w (h ++ es) b.arc b.tick ≡ ToldActive w h b.arc b.tick → whole_of w (h ++ es) b x ≡ whole_of w h b x
+whole_like w h es b (what.Frame f) told = refl
+whole_like w h es b what.Nothing told = refl
+whole_like w h es b what.Lldp told = ap (λ (v : Bool). lldp_frame (arc w b.arc).from.0 b.arc (record (AdvertAt w h b.arc b.tick) { active = v })) told
+
+-- what an mPacket carries depends on no more of later events than what they tell of its tick
+pub whole_told : (w : Scenario) (h es : History) (b : Begin) → ToldActive w (h ++ es) b.arc b.tick ≡ ToldActive w h b.arc b.tick → WholeOf w (h ++ es) b ≡ WholeOf w h b
+whole_told w h es b told = whole_like w h es b b.what told
 
 pub whole_later : (w : Scenario) (h es : History) (b : Begin) → AllLater (suc b.tick) es → WholeOf w (h ++ es) b ≡ WholeOf w h b
-whole_later w h es b later = whole_like w h es b b.what later
+whole_later w h es b later = whole_told w h es b (told_later w h es b.arc b.tick later)
 
 -- so its check stays
 pub check_later : (w : Scenario) (h es : History) (b : Begin) (size : ℕ) → AllLater (suc b.tick) es → CheckOf w (h ++ es) b size ≡ CheckOf w h b size

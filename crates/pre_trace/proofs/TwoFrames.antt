@@ -4,7 +4,6 @@ use Rattle.std.specs.Prelude.{if◌then◌else◌, slice_get, slice_index, slice
 use Rattle.std.specs.List.{cons_option, list_any, AllByRecursion as Every}
 use Rattle.std.proofs.lemmas.Bool.Decides.{nat_tests}
 use Rattle.pre_crc.specs.Checks.{Mcrc}
-use Rattle.pre_frame.specs.Layout.{frame_of}
 use Rattle.pre_lldp.specs.LldpLayout.{is_lldp_frame}
 use Rattle.pre_topo.specs.declared.arcs.Arc.{Arc}
 use Rattle.pre_script.specs.declared.scripts.SendLine.{SendLine}
@@ -26,6 +25,7 @@ use Rattle.pre_trace.proofs.Lists.{any_at, found_at}
 use Rattle.pre_trace.proofs.Free.{packet_at}
 use Rattle.pre_trace.proofs.Fronts.{IsRight, EntersRight, BeginsRight, IsWholeBegin}
 use Rattle.pre_trace.proofs.Coming.{no_next}
+use Rattle.pre_trace.proofs.Undamaged.{user_frame}
 use Rattle.pre_trace.proofs.PairFacts.{SendsAtStart, cost_one, far_end, first_ab, prio_six, direct, no_delay, frame_size}
 use Rattle.pre_trace.proofs.Quiet.{selected, comings_are, not_due}
 
@@ -267,16 +267,12 @@ module _ (w : Scenario) (s : SendsTwoFrames w) where
     refl,
   )
 
-  user_frame : (f : ℕ) → is_lldp_frame (FrameOf w f) ≡ false
-  unfolding frame_of
-  user_frame f = refl
-
   -- the events of an arrival
   pub arrives : (h : History) (t ord f : ℕ) → frame_at h 0 ord ≡ Some f → Gives (Air w h 0) ord (Given.frame (FrameOf w f)) → (e : Ended) → e.tick ≡ t → e.ord ≡ ord
       → Arriving w h t 0 e (frame_arrives t ord ∷ frame_delivery w t f ∷ [])
   arrives h t ord f carries gives e tick ord_is =
       let now : e.tick + (arc w 0).delay ≡ t = omega (arith, tick, no_delay w at 0) in
-      let result : outcome.Frame ≡ (if is_lldp_frame (FrameOf w f) then outcome.Lldp else outcome.Frame) = ap (λ (b : Bool). if b then outcome.Lldp else outcome.Frame) (sym (user_frame f)) in
+      let result : outcome.Frame ≡ (if is_lldp_frame (FrameOf w f) then outcome.Lldp else outcome.Frame) = ap (λ (b : Bool). if b then outcome.Lldp else outcome.Frame) (sym (user_frame w f)) in
       let events : frame_arrives t ord ∷ frame_delivery w t f ∷ [] ≡ frame_arrives t ord ∷ delivered t (arc w 0).to.0 f (FrameOf w f) None = ap (λ n. frame_arrives t ord ∷ PlainEvent.deliver (record { tick = t; node = n; frame = f; octets = FrameOf w f }) ∷ []) (sym (far_end w at)) in
       let here = ap (λ o. frame_arrives t ord ∷ delivered t (arc w 0).to.0 f (FrameOf w f) o) (sym (no_next w (direct w at) 0 f)) in
       inl (now, (outcome.Frame, subst (λ i. Result (Air w h 0) i outcome.Frame) (sym ord_is) (inr (inl (Given.frame (FrameOf w f), gives, result))), subst (λ i. WithDelivery w h t 0 i outcome.Frame (frame_arrives t ord ∷ frame_delivery w t f ∷ [])) (sym ord_is) (f, FrameOf w f, carries, gives, events ∙ here)))

@@ -1,34 +1,23 @@
 -- The history of two frames back to back is legal.
-use Rattle.std.proofs.Common.{ℕ, zero, suc, ◌≡◌, ◌≢◌, ◌==◌, ◌+◌, ◌*◌, ◌<◌, nat_le, Bool, true, false, [], ◌∷◌, ◌++◌, length, refl, sym, ◌∙◌, ap, inl, inr, arith, subst, Some, None}
-use Rattle.std.specs.Prelude.{if◌then◌else◌, All, Any, count_by, slice_get}
-use Rattle.std.specs.List.{cons_option, AllByRecursion as Every}
-use Rattle.std.proofs.lemmas.Bool.Decides.{nat_tests}
-use Rattle.std.proofs.lemmas.List.Elements.{All-from_recursion}
-use Rattle.pre_crc.specs.Checks.{Fcs}
+use Rattle.std.proofs.Common.{ℕ, zero, suc, ◌≡◌, ◌+◌, ◌*◌, ◌<◌, nat_le, [], ◌∷◌, ◌++◌, length, refl, sym, ◌∙◌, ap, inr, arith, subst, Some}
+use Rattle.std.specs.Prelude.{count_by, slice_get}
 use Rattle.pre_script.specs.declared.scripts.SendLine.{SendLine}
-use Rattle.pre_mpacket.specs.declared.packets.Kind.{Kind}
-use Rattle.pre_mpacket.specs.declared.packets.Kind.TheVariants as kind
-use Rattle.pre_mpacket.specs.Spelling.{PlainPacket}
-use Rattle.pre_mpacket.specs.Arrivals.{Given, Gives, Spelled, HasKind, is_start, is_continue, is_fragment}
-use Rattle.pre_mpacket.specs.Counters.{IsAssError, IsSmdError, IsAssOk, IsFragRx}
-use Rattle.pre_trace.specs.declared.events.What.TheVariants as what
+use Rattle.pre_mpacket.specs.Arrivals.{Given, Gives}
 use Rattle.pre_trace.specs.Scenario.{Scenario, FrameOf}
 use Rattle.pre_trace.specs.Moments.{Phase, moments}
-use Rattle.pre_trace.specs.History.{PlainEvent, History, Ended, Arrive}
-use Rattle.pre_trace.specs.Queries.{Begins, Ends, Arrivals, Packet, Packets, packet, Waiting}
-use Rattle.pre_trace.specs.Octets.{WholeOf, Air}
+use Rattle.pre_trace.specs.History.{PlainEvent, History, Ended}
+use Rattle.pre_trace.specs.Queries.{Begins, Ends, Waiting}
+use Rattle.pre_trace.specs.Octets.{Air}
 use Rattle.pre_trace.specs.Rules.{HappensIn}
-use Rattle.pre_trace.specs.Legal.{LegalUpTo, Alias, IsLastOf, CountsOf, CountLines, last_moment, Legal}
+use Rattle.pre_trace.specs.Legal.{LegalUpTo, last_moment, Legal}
 use Rattle.pre_trace.specs.Examples.{SendsTwoFrames, frame_begin, frame_end, frame_arrives, frame_delivery, two_frames_body, two_frames}
-use Rattle.pre_trace.proofs.Lists.{any_at}
-use Rattle.pre_trace.proofs.Free.{packet_at}
 use Rattle.pre_trace.proofs.Arrived.{OneGiven}
 use Rattle.pre_trace.proofs.Spelled.{OneSpelled}
-use Rattle.pre_trace.proofs.Undamaged.{user_of, whole_arrives, whole_spelled}
-use Rattle.pre_trace.proofs.PairFacts.{two_arcs, no_delay, next, idle}
+use Rattle.pre_trace.proofs.Undamaged.{whole_arrives}
+use Rattle.pre_trace.proofs.PairFacts.{two_arcs, no_delay, plain, next, idle}
+use Rattle.pre_trace.proofs.DirectArrivals.{no_alias, no_counts_told}
 use Rattle.pre_trace.proofs.Quiet.{quiet_sets, quiet_expiries, quiet_ends, quiet_arrivals, quiet_entries, quiet_starts, quiet_phase}
 use Rattle.pre_trace.proofs.TwoFrames.{both, begun, ended, between, second, second_ended, at, known, size_of, enters_now, first_starts, second_starts, first_ends, second_ends, check_is, arrives, begun_right, between_right, second_right, body_right, begun_start, between_start, second_waits, body_waits, one_begin, two_begins, one_end, two_ends}
-use Rattle.pre_trace.proofs.OneFrameLegal.{no_counts}
 
 module _ (spelled : OneSpelled) (w : Scenario) (s : SendsTwoFrames w) where
   -- the mPacket with this ordinal gives its frame
@@ -136,94 +125,7 @@ module _ (spelled : OneSpelled) (w : Scenario) (s : SendsTwoFrames w) where
       idle w (at w s) (two_frames_body w) 157 1001 (omega arith) (λ r from to. quiet_phase w (at w s) (two_frames_body w) r (omega (arith, from)) (body_right w s) (λ a. inr (λ p. body_waits w s r a p (omega (arith, from))))
       (λ a. two_begins w s (two_frames_body w) r a (λ e. absurd (omega (arith, e, from))) (λ e. absurd (omega (arith, e, from)))) (λ a. two_ends w s r a (λ e. absurd (omega (arith, e, from))) (λ e. absurd (omega (arith, e, from))))) l1570
 
-  -- ---- the whole
-
-  body_places : (j : ℕ) (d : Ended) → slice_get (Ends (two_frames_body w) 0) j ≡ Some d → d.ord ≡ j
-  body_places zero d here = let same : frame_end w 72 0 0 ≡ d = cc here in ap (λ (x : Ended). x.ord) (sym same)
-  body_places (suc zero) d here = let same : frame_end w 156 1 1 ≡ d = cc here in ap (λ (x : Ended). x.ord) (sym same)
-  body_places (suc (suc j)) d here = absurd (cc here)
-
-  spells_at : (t e i : ℕ) → i < 2 → slice_get (Begins (two_frames_body w) 0) i ≡ Some (frame_begin t i i) → slice_get (Ends (two_frames_body w) 0) i ≡ Some (frame_end w e i i)
-      → Spelled (Air w (two_frames_body w) 0) i ≡ Some (record { kind = kind.Express; mdata = (user_of w i).0; check = Fcs (user_of w i).0 })
-  spells_at t e i lt begins ends =
-      let size = (at w s).size i (known w s i lt) in
-      whole_spelled spelled w (two_frames_body w) 0 i (frame_begin t i i) (frame_end w e i i) (record { 0 = i }) s.losses s.damages begins ends refl body_places refl refl refl (sym (size_of w s i lt)) (check_is w s i lt)
-      (omega (arith, size))
-
-  other_kind : (i : ℕ) (test : Kind → Bool) → Spelled (Air w (two_frames_body w) 0) i ≡ Some (record { kind = kind.Express; mdata = (user_of w i).0; check = Fcs (user_of w i).0 })
-      → test kind.Express ≡ false → HasKind (Air w (two_frames_body w) 0) test i → ⊥
-  other_kind i test spells none (m, here, is) =
-      let express : PlainPacket = record { kind = kind.Express; mdata = (user_of w i).0; check = Fcs (user_of w i).0 } in
-      let same : express ≡ m = cc (spells, here) in
-      let kind_is : kind.Express ≡ m.kind = ap (λ (x : PlainPacket). x.kind) same in
-      cc (none, ap test kind_is, is)
-
-  module _ (i : ℕ) (spells : Spelled (Air w (two_frames_body w) 0) i ≡ Some (record { kind = kind.Express; mdata = (user_of w i).0; check = Fcs (user_of w i).0 })) where
-    no_ass_error : ¬ IsAssError (Air w (two_frames_body w) 0) i
-    no_ass_error x = elim x [ inl discards ↦ elim discards.1 [ inl start ↦ other_kind i is_start spells refl start | inr more ↦ other_kind i is_continue spells refl more.0 ] | inr start ↦ other_kind i is_start spells refl start.0 ]
-
-    no_smd_error : ¬ IsSmdError (Air w (two_frames_body w) 0) i
-    no_smd_error x = elim x.1 [ inl none ↦ none (record { kind = kind.Express; mdata = (user_of w i).0; check = Fcs (user_of w i).0 }, spells, refl) | inr more ↦ other_kind i is_continue spells refl more.0 ]
-
-    no_ass_ok : ¬ IsAssOk (Air w (two_frames_body w) 0) i
-    no_ass_ok x = other_kind i is_fragment spells refl x.0
-
-    no_frag_rx : ¬ IsFragRx (Air w (two_frames_body w) 0) i
-    no_frag_rx x = other_kind i is_continue spells refl x.0
-
-  is_last : (t e i : ℕ) → i < 2 → slice_get (Begins (two_frames_body w) 0) i ≡ Some (frame_begin t i i) → slice_get (Ends (two_frames_body w) 0) i ≡ Some (frame_end w e i i) → IsLastOf w (two_frames_body w) 0 i (FrameOf w i)
-  is_last t e i lt begins ends =
-      any_at
-      (λ (p : Packet). (p.begin.ord ≡ i) × (p.begin.what ≢ what.Nothing) × (FrameOf w i ≡ WholeOf w (two_frames_body w) p.begin)
-      × Any (λ (x : Ended). (x.ord ≡ i) × (p.begin.from + x.size ≡ length (FrameOf w i))) (Ends (two_frames_body w) 0))
-      (Packets (two_frames_body w) 0) i (packet (two_frames_body w) 0 (frame_begin t i i)) (packet_at (two_frames_body w) 0 i (frame_begin t i i) begins)
-      (refl, (λ x. cc x), refl, any_at (λ (x : Ended). (x.ord ≡ i) × (0 + x.size ≡ length (FrameOf w i))) (Ends (two_frames_body w) 0) i (frame_end w e i i) ends (refl, sym (size_of w s i lt)))
-
   module _ (one : OneGiven) where
-    no_alias : (t e i : ℕ) → i < 2 → slice_get (Begins (two_frames_body w) 0) i ≡ Some (frame_begin t i i) → slice_get (Ends (two_frames_body w) 0) i ≡ Some (frame_end w e i i) → ¬ Alias w (two_frames_body w) 0 i
-    no_alias t e i lt begins ends (inl (gives, other)) =
-        let same : Given.verify ≡ Given.frame (FrameOf w i) = one (Air w (two_frames_body w) 0) i Given.verify (Given.frame (FrameOf w i)) gives (gives_at (two_frames_body w) t e i lt begins ends body_places) in cc same
-    no_alias t e i lt begins ends (inr (inl (gives, other))) =
-        let same : Given.respond ≡ Given.frame (FrameOf w i) = one (Air w (two_frames_body w) 0) i Given.respond (Given.frame (FrameOf w i)) gives (gives_at (two_frames_body w) t e i lt begins ends body_places) in cc same
-    no_alias t e i lt begins ends (inr (inr (octets, gives, other))) =
-        let same : Given.frame octets ≡ Given.frame (FrameOf w i) = one (Air w (two_frames_body w) 0) i (Given.frame octets) (Given.frame (FrameOf w i)) gives (gives_at (two_frames_body w) t e i lt begins ends body_places) in
-        let is : octets ≡ FrameOf w i = cc same in
-        other (subst (IsLastOf w (two_frames_body w) 0 i) (sym is) (is_last t e i lt begins ends))
-
-    two_where : (Q : Arrive → Type 0) (x y : Arrive) (b : Bool) → (b ≡ true → Q x) → (b ≡ true → Q y) → Every Q (cons_option (if b then Some x else None) (cons_option (if b then Some y else None) []))
-    two_where Q x y true p q = (p refl, (q refl, tt))
-    two_where Q x y false p q = tt
-
-    no_aliases : (a : ℕ) → All (λ (x : Arrive). ¬ Alias w (two_frames_body w) a x.ord) (Arrivals (two_frames_body w) a)
-    no_aliases a =
-        All-from_recursion (λ (x : Arrive). ¬ Alias w (two_frames_body w) a x.ord) (Arrivals (two_frames_body w) a)
-        (two_where (λ (x : Arrive). ¬ Alias w (two_frames_body w) a x.ord) _ _ (0 == a)
-        (λ on. let is : 0 ≡ a = grind (arith, nat_tests) in subst (λ b. ¬ Alias w (two_frames_body w) b 0) is (no_alias 0 72 0 (omega arith) refl refl))
-        (λ on. let is : 0 ≡ a = grind (arith, nat_tests) in subst (λ b. ¬ Alias w (two_frames_body w) b 1) is (no_alias 84 156 1 (omega arith) refl refl)))
-
-    spells_first : Spelled (Air w (two_frames_body w) 0) 0 ≡ Some (record { kind = kind.Express; mdata = (user_of w 0).0; check = Fcs (user_of w 0).0 })
-    spells_first = spells_at 0 72 0 (omega arith) refl refl
-
-    spells_second : Spelled (Air w (two_frames_body w) 0) 1 ≡ Some (record { kind = kind.Express; mdata = (user_of w 1).0; check = Fcs (user_of w 1).0 })
-    spells_second = spells_at 84 156 1 (omega arith) refl refl
-
-    counts_ab : CountsOf w (two_frames_body w) 0 no_counts
-    counts_ab = (
-      record {
-        ass_errors = inr (no_ass_error 1 spells_second, inr (no_ass_error 0 spells_first, refl));
-        smd_errors = inr (no_smd_error 1 spells_second, inr (no_smd_error 0 spells_first, refl));
-        ass_oks = inr (no_ass_ok 1 spells_second, inr (no_ass_ok 0 spells_first, refl));
-        frag_rxs = inr (no_frag_rx 1 spells_second, inr (no_frag_rx 0 spells_first, refl));
-      },
-      refl,
-    )
-
-    counts_ba : CountsOf w (two_frames_body w) 1 no_counts
-    counts_ba = (record { ass_errors = refl; smd_errors = refl; ass_oks = refl; frag_rxs = refl }, refl)
-
-    counted : CountLines w (two_frames_body w) (length w.net.arcs) []
-    counted = subst (λ n. CountLines w (two_frames_body w) n []) (sym (two_arcs w (at w s))) ([], no_counts, ([], no_counts, refl, counts_ab, refl), counts_ba, refl)
-
     pub two_frames_legal : Legal w (two_frames w)
     two_frames_legal =
         let until = s.until in
@@ -232,7 +134,7 @@ module _ (spelled : OneSpelled) (w : Scenario) (s : SendsTwoFrames w) where
         let end_at : last_moment w ≡ 10010 = ap (λ (n : ℕ). (n + 1) * moments (length w.net.arcs)) until ∙ ap (λ (n : ℕ). 1001 * moments n) (two_arcs w (at w s)) in (
           two_frames_body w,
           [],
-          (subst (λ n. LegalUpTo w n (two_frames_body w)) (sym end_at) body_legal, no_aliases),
-          counted,
+          (subst (λ n. LegalUpTo w n (two_frames_body w)) (sym end_at) body_legal, no_alias spelled one w (plain w (at w s)) 10010 (two_frames_body w) body_legal),
+          no_counts_told spelled one w (plain w (at w s)) 10010 (two_frames_body w) body_legal,
           λ i. two_frames_body w ++ PlainEvent.end (record { until = sym until i; sent = sym sent i; delivered = 2; dropped = 0 }) ∷ [],
         )

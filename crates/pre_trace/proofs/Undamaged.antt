@@ -7,6 +7,7 @@ use Rattle.pre_base.specs.declared.numbers.FrameNo.{FrameNo}
 use Rattle.pre_crc.specs.Checks.{Fcs, Mcrc}
 use Rattle.pre_crc.specs.CheckFacts.{length-Fcs}
 use Rattle.pre_frame.specs.Layout.{frame_of, header_of, address_of, tag_control, script_type, payload_of}
+use Rattle.pre_lldp.specs.LldpLayout.{is_lldp_frame}
 use Rattle.pre_frame.specs.FrameFacts.{length-frame_of}
 use Rattle.pre_script.specs.declared.scripts.Damage.{Damage}
 use Rattle.pre_mpacket.specs.declared.packets.Kind.TheVariants as kind
@@ -39,10 +40,15 @@ pub user_of : (w : Scenario) (f : ℕ) → (user : List ℕ) × (FrameOf w f ≡
 unfolding frame_of
 user_of w f = (header_of (address_of (destination w f)) (address_of (source w f)) (tag_control (row w f).prio false (row w f).vid) script_type ++ payload_of f ((send w f).send.size - 22), refl)
 
+-- a user frame goes to a node, so it is no LLDP frame
+pub user_frame : (w : Scenario) (f : ℕ) → is_lldp_frame (FrameOf w f) ≡ false
+unfolding frame_of
+user_frame w f = refl
+
 pub length-FrameOf : (w : Scenario) (f : ℕ) → 26 ≤ (send w f).send.size → length (FrameOf w f) ≡ (send w f).send.size
 length-FrameOf w f low = length-frame_of (destination w f) (source w f) (row w f).prio (row w f).vid f (send w f).send.size low
 
-air_at : (w : Scenario) (h : History) (a i : ℕ) (b : Begin) → slice_get (Begins h a) i ≡ Some b → slice_get (Air w h a) i ≡ Some (Arrived w h (packet h a b))
+pub air_at : (w : Scenario) (h : History) (a i : ℕ) (b : Begin) → slice_get (Begins h a) i ≡ Some b → slice_get (Air w h a) i ≡ Some (Arrived w h (packet h a b))
 unfolding Air
 air_at w h a i b at = go (Packets h a) i (packet_at h a i b at)
   where

@@ -23,3 +23,9 @@ pub record DeliversOnce (w : Scenario) (h : History) : Type 0 where
   pub octets : All (λ d. d.octets ≡ FrameOf w d.frame) (Deliveries h)
   pub sent : All (λ d. (send w d.frame).send.tick.0 ≤ d.tick) (Deliveries h)
   pub once : AllPairs (λ d e. d.frame ≢ e.frame) (Deliveries h)
+
+-- A direct run in which only whole frames of the script are sent.
+pub record IsPlain (w : Scenario) : Type 0 where
+  pub direct : IsDirect w
+  -- no arc negotiates, so neither verifies, responds nor LLDP frames begin
+  pub silent : All (λ a. a.mode ≢ mode.Negotiate) w.net.arcs

@@ -80,6 +80,10 @@ abbrev pub is_lldp_result : Outcome → Bool
 is_lldp_result outcome.Lldp = true
 is_lldp_result other = false
 
+abbrev pub is_respond_result : Outcome → Bool
+is_respond_result outcome.Respond = true
+is_respond_result other = false
+
 -- from the last element that passes the test on
 abbrev pub from_last : {X : Type 0} → (X → Bool) → List X → List X
 from_last test [] = []

@@ -1,20 +1,27 @@
-ghost use Rattle.std.specs.Prelude.{◌↔◌, ◌≡◌, ◌⊎◌, ℕ, ◌+◌, ◌<◌, ◌++◌, [], length, ◌≤◌, slice_get, Some};
+ghost use Rattle.std.specs.Prelude.{◌↔◌, ◌≡◌, ◌⊎◌, ℕ, ◌+◌, ◌*◌, ◌<◌, ◌++◌, [], length, ◌≤◌, slice_get, All, Some, List, Bool, false};
+ghost use Rattle.std.specs.Bool.{Decides};
 ghost use Rattle.pre_base.specs.declared.numbers.FrameNo.{FrameNo};
+ghost use Rattle.pre_lldp.specs.Ages.{CountsEnabled, Heard};
+ghost use Rattle.pre_lldp.specs.LinkState.{is_verified, is_verify_wanted};
+ghost use Rattle.pre_lldp.specs.LldpLayout.{is_lldp_frame};
 ghost use Rattle.pre_mpacket.specs.Arrivals.{Given, Gives};
 ghost use Rattle.pre_mpacket.specs.Pieces.{CutRule, IsBoundary};
+ghost use Rattle.pre_script.specs.declared.scripts.Setting.TheVariants as setting;
+ghost use Rattle.pre_topo.specs.declared.arcs.Mode.TheVariants as mode;
 ghost use Rattle.pre_topo.specs.declared.network.Network.{Network};
 ghost use Rattle.pre_trace.specs.declared.events.What.TheVariants as what;
-ghost use Rattle.pre_trace.specs.Octets.{Air};
-ghost use Rattle.pre_trace.specs.Deliveries.{DeliversOnce, IsDirect};
+ghost use Rattle.pre_trace.specs.Octets.{Air, ToldActive};
+ghost use Rattle.pre_trace.specs.Deliveries.{DeliversOnce, IsDirect, IsPlain};
 ghost use Rattle.pre_trace.specs.Examples.{SendsOneFrame, SendsTwoFrames, one_frame, two_frames};
 ghost use Rattle.pre_trace.specs.History.{Begin, Ended, History};
-ghost use Rattle.pre_trace.specs.Legal.{Legal, LegalUpTo};
+ghost use Rattle.pre_trace.specs.Legal.{Alias, CountLines, Legal, LegalUpTo};
+ghost use Rattle.pre_trace.specs.LinkState.{Active, AreHeard, Good, RespondTicks, VerifiesBefore, VerifyWanted};
 ghost use Rattle.pre_trace.specs.Moments.{Phase, moment_at};
 ghost use Rattle.pre_trace.specs.Ordered.{HaveArrived, HaveChecks, HaveSizes, IsOrdered};
 ghost use Rattle.pre_trace.specs.Placed.{AllBefore, AllLater, number};
-ghost use Rattle.pre_trace.specs.Queries.{Arrivals, Begins, Ends, Occupied, Waiting};
+ghost use Rattle.pre_trace.specs.Queries.{Arrivals, Begins, Ends, Occupied, SettingOf, Waiting};
 ghost use Rattle.pre_trace.specs.Rules.{Arriving, EndDue, Happens, HappensIn, OneOrNone};
-ghost use Rattle.pre_trace.specs.Scenario.{FrameOf, Scenario};
+ghost use Rattle.pre_trace.specs.Scenario.{FrameOf, Scenario, arc};
 ghost use Rattle.pre_trace.specs.Starts.{ExpressWaits, begun};
 ghost use Rattle.pre_trace.specs.Text.{text};
 ghost use Rattle.pre_trace.specs.Written.{AreWritten};
@@ -47,11 +54,15 @@ pub fn idle_moments()
         → ((k : ℕ) → k < n → Happens w h (moment_at (length w.net.arcs) (m + k)) []) → LegalUpTo w (m + n) h }
 {}
 
-/// Later events don't change what waits at a tick, nor whether an arc is occupied then.
+/// Later events don't change what waits at a tick, nor whether an arc is occupied or active then.
 pub fn queries_stay()
     ensures waiting { (h g : History) (a p t : ℕ) → AllLater t g → Waiting (h ++ g) a p t ≡ Waiting h a p t }
     ensures occupied { (w : Scenario) (h g : History) (a t : ℕ) → AllLater t g → Occupied w (h ++ g) a t ↔ Occupied w h a t }
-{}
+    ensures active { (w : Scenario) (n : ℕ) (h g : History) (a t : ℕ) → a < length w.net.arcs → LegalUpTo w n h → AllLater t g
+        → Active w (h ++ g) a t ↔ Active w h a t }
+{
+    pre_mpacket::later_arrivals();
+}
 
 /// Where frames go whole over one arc and none is lost or damaged, each delivery of a legal history has the octets of the
 /// frame that it names, which was sent by then, and no two deliveries name one frame. A frame that has ended gives itself
@@ -61,6 +72,17 @@ pub fn deliveries_are_what_was_sent()
     ensures so_far { (w : Scenario) → IsDirect w → (n : ℕ) (h : History) → LegalUpTo w n h → DeliversOnce w h }
     ensures arrives { (w : Scenario) → IsDirect w → (n : ℕ) (h : History) (a i : ℕ) (b : Begin) (e : Ended) (f : FrameNo) → a < length w.net.arcs → LegalUpTo w n h
         → slice_get (Begins h a) i ≡ Some b → slice_get (Ends h a) i ≡ Some e → b.what ≡ what.Frame f → Gives (Air w h a) i (Given.frame (FrameOf w f.0)) }
+{
+    pre_mpacket::one_mpacket();
+    pre_mpacket::one_given();
+}
+
+/// Where no arc of a direct run negotiates, each arrival gives the frame that was sent as that mPacket: none is an alias, and no
+/// counter of an arc rises. A frame of a script is never an LLDP frame.
+pub fn direct_arrivals()
+    ensures user { (w : Scenario) (f : FrameNo) → is_lldp_frame (FrameOf w f.0) ≡ false }
+    ensures no_alias { (w : Scenario) → IsPlain w → (n : ℕ) (h : History) → LegalUpTo w n h → (a : ℕ) → All (λ x. ¬ Alias w h a x.ord) (Arrivals h a) }
+    ensures no_counts { (w : Scenario) → IsPlain w → (n : ℕ) (h : History) → LegalUpTo w n h → CountLines w h (length w.net.arcs) [] }
 {
     pre_mpacket::one_mpacket();
     pre_mpacket::one_given();
@@ -83,6 +105,29 @@ pub fn small_histories_are_legal()
 {
     pre_mpacket::one_mpacket();
     pre_mpacket::one_given();
+}
+
+/// In a legal history the `active` events of an arc that negotiates tell whether it is active: the last one up to a tick,
+/// once the arc's expiries of that tick are over.
+pub fn active_is_told()
+    ensures { (w : Scenario) (n : ℕ) (h : History) (a t : ℕ) → a < length w.net.arcs → (arc w a).mode ≡ mode.Negotiate → LegalUpTo w n h
+        → number (length w.net.arcs) t (1 + 2 * length w.net.arcs + a) < n → Decides (ToldActive w h a t) (Active w h a t) }
+{
+    pre_mpacket::later_arrivals();
+}
+
+/// The state of an arc that negotiates is that of a link. Whether it is good is said by the adverts heard; whether it is
+/// active, and wants a verify, is computed from any test of that, the verifies begun and the responds received.
+pub fn arcs_are_links()
+    ensures good { (w : Scenario) (h : History) (a t : ℕ) (calls : List Heard) → AreHeard w h a t calls
+        → Good w h a t ↔ ((SettingOf w a t ≡ setting.On) × CountsEnabled w.net.timing.unit calls t) }
+    ensures active { (w : Scenario) (h : History) (a t : ℕ) (good : ℕ → Bool) → (arc w a).mode ≡ mode.Negotiate
+        → ((i : ℕ) → i ≤ t → Decides (good i) (Good w h a i)) → Decides (is_verified good (VerifiesBefore h a t) (RespondTicks h a) t) (Active w h a t) }
+    ensures wanted { (w : Scenario) (h : History) (a t : ℕ) (good : ℕ → Bool) → ((i : ℕ) → i ≤ t → Decides (good i) (Good w h a i))
+        → Decides (is_verify_wanted good (VerifiesBefore h a t) (RespondTicks h a) w.net.timing.verify t) (VerifyWanted w h a t) }
+{
+    pre_mpacket::one_given();
+    pre_lldp::link_state();
 }
 
 /// It is decided at each tick whether an arc is occupied, whether an express frame waits, and after which octets a

@@ -5,15 +5,17 @@ mod events;
 mod laws;
 mod text;
 mod watchers;
+mod written;
 
 pub use events::{Event, Outcome, What};
 pub use laws::{
-    deliveries_are_what_was_sent, events_before_their_end, idle_moments, mpackets_in_order,
-    one_history, one_told_history, queries_stay, small_histories_are_legal, tests_are_decided,
-    turns_are_kept,
+    active_is_told, arcs_are_links, deliveries_are_what_was_sent, direct_arrivals,
+    events_before_their_end, idle_moments, mpackets_in_order, one_history, one_told_history,
+    queries_stay, small_histories_are_legal, tests_are_decided, turns_are_kept,
 };
 pub use text::put_event;
 pub use watchers::{TraceWatcher, Watcher};
+pub use written::events_are_written;
 
 #[cfg(test)]
 mod tests;
