@@ -1,5 +1,5 @@
 -- The arcs of a route are the network's.
-use Rattle.std.proofs.Common.{◌≡◌, ℕ, ◌<◌, ◌+◌, length, slice_index_or, arith}
+use Rattle.std.proofs.Common.{◌<◌, length, slice_index_or, arith}
 use Rattle.std.proofs.lemmas.Option.{slice_get-get_or, slice_get_within}
 use Rattle.pre_base.specs.declared.numbers.NodeId.{NodeId}
 use Rattle.pre_base.specs.declared.numbers.ArcId.{ArcId}

@@ -3,3 +3,7 @@ pub mod Reach
 pub mod Views
 pub mod Steps
 pub mod Told
+pub mod Stands
+pub mod Parts
+pub mod Spelled
+pub mod Sends

@@ -1,12 +1,14 @@
 -- What a step of a run does, by its answer.
-use Rattle.std.specs.Prelude.{◌≡◌, ℕ, ◌+◌, ◌≤◌, Bool, true, false, List}
+use Rattle.std.specs.Prelude.{◌≡◌, ℕ, ◌+◌, ◌≤◌, Bool, true, false, List, [], ◌∷◌, ◌++◌}
 use Rattle.pre_base.specs.Faults.{Rose}
-use Rattle.pre_topo.specs.declared.network.Network.{Network}
 use Rattle.pre_trace.specs.History.{PlainEvent, History}
+use Rattle.pre_trace.specs.Written.{IsWritten, AreWritten}
+use Rattle.pre_trace.specs.Legal.{Legal}
 use Rattle.pre_sim.specs.declared.runs.Step.{Step}
 use Rattle.pre_sim.specs.declared.runs.Step.TheVariants.{More, Ended, Alias, Stopped, Memory}
-use Rattle.pre_sim.specs.Telling.{TellsSome, TellsTorn}
-use Rattle.pre_sim.specs.Views.{SimView}
+use Rattle.pre_sim.specs.Telling.{TellsAll}
+use Rattle.pre_sim.specs.Parts.{IsFrontOfLegal}
+use Rattle.pre_sim.specs.Views.{SimView, HasTold}
 
 abbrev pub is_more : Step → Bool
 is_more More = true
@@ -15,18 +17,22 @@ is_more (Alias arc ordinal) = false
 is_more Stopped = false
 is_more Memory = false
 
--- what the watcher was told. No mPacket is changed on its way so far, so there is no alias
-abbrev pub StepTells : Network → Step → (List ℕ → History → Type 0) → (List ℕ → History → Type 0) → (List ℕ → History → PlainEvent → Type 0) → Type 0
-StepTells net More old new torn = TellsSome net old new
-StepTells net Ended old new torn = TellsSome net old new
-StepTells net (Alias arc ordinal) old new torn = ⊥
-StepTells net Stopped old new torn = TellsTorn net old torn
-StepTells net Memory old new torn = TellsSome net old new
+-- What the watcher was told, by the watcher's relations before and after. The events of the tick follow those told so
+-- far; on Ended all of them are a legal history; where the run stopped early they are the front of one, with the event at
+-- which the watcher failed at its end. No mPacket is changed on its way so far, so there is no alias.
+abbrev pub StepTells : SimView → Step → SimView → (List ℕ → History → Type 0) → (List ℕ → History → Type 0) → (List ℕ → History → PlainEvent → Type 0) → Type 0
+StepTells old More new took took' torn = (es : History) × TellsAll old.run.net took took' es × ((h : History) → HasTold old h → HasTold new (h ++ es))
+StepTells old Ended new took took' torn = (es : History) × TellsAll old.run.net took took' es × ((h : History) → HasTold old h → Legal old.run (h ++ es))
+StepTells old (Alias arc ordinal) new took took' torn = ⊥
+StepTells old Stopped new took took' torn =
+    (es : History) × (e : PlainEvent) × AreWritten old.run.net es × IsWritten old.run.net e × ((base : List ℕ) (h : History) → took base h → torn base (h ++ es) e)
+    × ((h : History) → HasTold old h → IsFrontOfLegal old.run (h ++ (es ++ e ∷ [])))
+StepTells old Memory new took took' torn = (es : History) × TellsAll old.run.net took took' es × ((h : History) → HasTold old h → IsFrontOfLegal old.run (h ++ es))
 
 -- it moves to the next tick, up to the last one, which ends the run
 abbrev pub StepMoves : Step → SimView → SimView → Type 0
-StepMoves More old new = (new.next ≡ old.next + 1) × (new.next ≤ new.until)
-StepMoves Ended old new = old.next ≡ old.until
+StepMoves More old new = (new.next ≡ old.next + 1) × (new.next ≤ new.run.script.until.0)
+StepMoves Ended old new = old.next ≡ old.run.script.until.0
 StepMoves (Alias arc ordinal) old new = ⊥
 StepMoves Stopped old new = Unit {0}
 StepMoves Memory old new = Unit {0}

@@ -1,15 +1,14 @@
--- Lemmas: what was told by two parts in a row.
-use Rattle.std.proofs.Common.{◌≡◌, ℕ, ◌≤◌, List, [], ◌∷◌, ◌++◌, Result, Ok, Err, refl, sym, ◌∙◌, ap, subst, append_assoc}
-use Rattle.std.specs.Result.{IsErr, IsOk}
-use Rattle.std.proofs.lemmas.Bool.{false≢true}
+-- Lemmas: what was told by two steps in a row.
+use Rattle.std.proofs.Common.{◌≡◌, ℕ, List, [], ◌∷◌, ◌++◌, refl, sym, ◌∙◌, ap, subst, append_assoc}
 use Rattle.std.proofs.lemmas.List.{append-nil}
 use Rattle.pre_topo.specs.declared.network.Network.{Network}
+use Rattle.pre_trace.specs.Scenario.{Scenario}
 use Rattle.pre_trace.specs.History.{PlainEvent, History}
-use Rattle.pre_trace.specs.Names.{IsOf, AreOf}
-use Rattle.pre_trace.specs.Watching.{GoesOn}
-use Rattle.pre_sim.specs.declared.halts.Halt.{Halt}
-use Rattle.pre_sim.specs.declared.halts.Halt.TheVariants.{Stopped, Memory}
-use Rattle.pre_sim.specs.Telling.{TellsAll, TellsSome, TellsTorn, Tells}
+use Rattle.pre_trace.specs.Written.{IsWritten, AreWritten, AreWritten-append}
+use Rattle.pre_trace.specs.Legal.{Legal}
+use Rattle.pre_sim.specs.Telling.{TellsAll}
+use Rattle.pre_sim.specs.Parts.{IsFrontOfLegal}
+use Rattle.pre_sim.specs.Views.{SimView, HasTold}
 use Rattle.pre_sim.specs.declared.runs.Step.{Step}
 use Rattle.pre_sim.specs.declared.runs.Step.TheVariants as step
 use Rattle.pre_sim.specs.Steps.{StepTells}
@@ -20,51 +19,54 @@ Takes = List ℕ → History → Type 0
 abbrev Fails : Type 1
 Fails = List ℕ → History → PlainEvent → Type 0
 
-AreOf-append : (net : Network) (g h : History) → AreOf net g → AreOf net h → AreOf net (g ++ h)
-AreOf-append net [] h p q = q
-AreOf-append net (e ∷ g) h p q = (p.0, AreOf-append net g h p.1 q)
+-- nothing was told
+pub tells_nothing : (net : Network) (took : Takes) → TellsAll net took took []
+tells_nothing net took = (tt, λ base h t. subst (took base) (sym (append-nil h)) t)
 
-pub told_nothing : (net : Network) (took : Takes) → TellsSome net took took
-told_nothing net took = ([], (tt, λ base h t. subst (took base) (sym (append-nil h)) t))
+-- some events after others
+pub tells_then : (net : Network) (a b c : Takes) (es fs : History) → TellsAll net a b es → TellsAll net b c fs → TellsAll net a c (es ++ fs)
+tells_then net a b c es fs p q = (AreWritten-append net es fs p.0 q.0, λ base h t. subst (c base) (append_assoc h es fs) (q.1 base (h ++ es) (p.1 base h t)))
 
--- an event that was taken
-pub told_one : {T E : Type 0} (net : Network) (r : Result T E) (old new : Takes) (torn : Fails) (e : PlainEvent) → IsOk r → IsOf net e → GoesOn r old new torn e → TellsSome net old new
-told_one net (Ok x) old new torn e is of goes = (e ∷ [], ((of, tt), goes))
-told_one net (Err d) old new torn e is of goes = absurd (false≢true is)
+-- steps so far, with no end
+abbrev pub GoesOnFrom : SimView → SimView → Takes → Takes → Type 0
+GoesOnFrom first now a b = (es : History) × TellsAll first.run.net a b es × (now.run ≡ first.run) × ((h : History) → HasTold first h → HasTold now (h ++ es))
 
--- an event at which the watcher failed
-pub torn_at : {T E : Type 0} (net : Network) (r : Result T E) (old new : Takes) (torn : Fails) (e : PlainEvent) → IsErr r → IsOf net e → GoesOn r old new torn e → TellsTorn net old torn
-torn_at net (Ok x) old new torn e is of goes = absurd (false≢true is)
-torn_at net (Err d) old new torn e is of goes = ([], e, tt, of, λ base h t. subst (λ g. torn base g e) (sym (append-nil h)) (goes base h t))
+pub goes_nowhere : (s : SimView) (a : Takes) → GoesOnFrom s s a a
+goes_nowhere s a = ([], tells_nothing s.run.net a, refl, λ h told. subst (HasTold s) (sym (append-nil h)) told)
 
-pub then_some : (net : Network) (a b c : Takes) → TellsSome net a b → TellsSome net b c → TellsSome net a c
-then_some net a b c p q = (
-  p.0 ++ q.0,
-  (
-    AreOf-append net p.0 q.0 p.1.0 q.1.0,
-    λ base h t. subst (c base) (append_assoc h p.0 q.0) (q.1.1 base (h ++ p.0) (p.1.1 base h t)),
-  ),
+-- a step after others
+pub step_then : (s t u : SimView) (answer : Step) (a b c : Takes) (torn : Fails) → GoesOnFrom s t a b → StepTells t answer u b c torn → StepTells s answer u a c torn
+step_then s t u step.More a b c torn (es, told, same, goes) q = (
+  es ++ q.0,
+  tells_then s.run.net a b c es q.0 told (subst (λ (w : Scenario). TellsAll w.net b c q.0) same q.1),
+  λ h has. subst (HasTold u) (append_assoc h es q.0) (q.2 (h ++ es) (goes h has)),
 )
-
-pub then_torn : (net : Network) (a b : Takes) (torn : Fails) → TellsSome net a b → TellsTorn net b torn → TellsTorn net a torn
-then_torn net a b torn p q = (
-  p.0 ++ q.0,
-  q.1,
-  AreOf-append net p.0 q.0 p.1.0 q.2,
-  q.3,
-  λ base h t. subst (λ g. torn base g q.1) (append_assoc h p.0 q.0) (q.4 base (h ++ p.0) (p.1.1 base h t)),
+step_then s t u step.Ended a b c torn (es, told, same, goes) q = (
+  es ++ q.0,
+  tells_then s.run.net a b c es q.0 told (subst (λ (w : Scenario). TellsAll w.net b c q.0) same q.1),
+  λ h has. subst (λ (w : Scenario). Legal w (h ++ (es ++ q.0))) same (subst (Legal t.run) (append_assoc h es q.0) (q.2 (h ++ es) (goes h has))),
 )
+step_then s t u (step.Alias arc ordinal) a b c torn p q = q
+step_then s t u step.Memory a b c torn (es, told, same, goes) q = (
+  es ++ q.0,
+  tells_then s.run.net a b c es q.0 told (subst (λ (w : Scenario). TellsAll w.net b c q.0) same q.1),
+  λ h has. subst (λ (w : Scenario). IsFrontOfLegal w (h ++ (es ++ q.0))) same (subst (IsFrontOfLegal t.run) (append_assoc h es q.0) (q.2 (h ++ es) (goes h has))),
+)
+step_then s t u step.Stopped a b c torn (es, told, same, goes) q =
+    let all : AreWritten s.run.net q.0 = subst (λ (w : Scenario). AreWritten w.net q.0) same q.2 in
+    let one : IsWritten s.run.net q.1 = subst (λ (w : Scenario). IsWritten w.net q.1) same q.3 in (
+      es ++ q.0,
+      q.1,
+      AreWritten-append s.run.net es q.0 told.0 all,
+      one,
+      λ base h took. subst (λ g. torn base g q.1) (append_assoc h es q.0) (q.4 base (h ++ es) (told.1 base h took)),
+      λ h has. subst (λ (w : Scenario). IsFrontOfLegal w (h ++ ((es ++ q.0) ++ q.1 ∷ []))) same
+          (subst (IsFrontOfLegal t.run) (whole h es q.0 (q.1 ∷ [])) (q.5 (h ++ es) (goes h has))),
+    )
+  where
+    whole : (x y z u : History) → (x ++ y) ++ (z ++ u) ≡ x ++ ((y ++ z) ++ u)
+    whole x y z u = append_assoc x y (z ++ u) ∙ ap (λ k. x ++ k) (sym (append_assoc y z u))
 
--- one part after another
-pub told_then : {T : Type 0} (net : Network) (r : Result T Halt) (a b c : Takes) (torn : Fails) → TellsSome net a b → Tells net r b c torn → Tells net r a c torn
-told_then net (Ok x) a b c torn p q = then_some net a b c p q
-told_then net (Err Memory) a b c torn p q = then_some net a b c p q
-told_then net (Err Stopped) a b c torn p q = then_torn net a b torn p q
-
--- a step after other parts
-pub step_then : (net : Network) (s : Step) (a b c : Takes) (torn : Fails) → TellsSome net a b → StepTells net s b c torn → StepTells net s a c torn
-step_then net step.More a b c torn p q = then_some net a b c p q
-step_then net step.Ended a b c torn p q = then_some net a b c p q
-step_then net (step.Alias arc ordinal) a b c torn p q = q
-step_then net step.Stopped a b c torn p q = then_torn net a b torn p q
-step_then net step.Memory a b c torn p q = then_some net a b c p q
+-- steps so far and one more
+pub goes_further : (s t u : SimView) (a b c : Takes) (torn : Fails) → GoesOnFrom s t a b → u.run ≡ t.run → StepTells t step.More u b c torn → GoesOnFrom s u a c
+goes_further s t u a b c torn p kept q = let both = step_then s t u step.More a b c torn p q in (both.0, both.1, kept ∙ p.2, both.2)

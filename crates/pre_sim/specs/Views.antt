@@ -1,9 +1,21 @@
--- What contracts see of a run: its network, its last tick, the tick that comes next, and whether it goes on.
-use Rattle.std.specs.Prelude.{ℕ, Bool}
-use Rattle.pre_topo.specs.declared.network.Network.{Network}
+-- What contracts see of a run.
+use Rattle.std.specs.Prelude.{ℕ, Bool, length}
+use Rattle.pre_trace.specs.Scenario.{Scenario}
+use Rattle.pre_trace.specs.History.{History}
+use Rattle.pre_trace.specs.Placed.{number}
+use Rattle.pre_trace.specs.Legal.{LegalBefore}
+use Rattle.pre_sim.specs.declared.ticks.Progress.{Progress}
+use Rattle.pre_sim.specs.Stands.{Reaches}
 
+-- what it is given, how far it is, the tick that comes next, and whether it goes on
 pub record SimView : Type 0 where
-  pub net : Network
-  pub until : ℕ
+  pub run : Scenario
+  pub progress : Progress
   pub next : ℕ
   pub going : Bool
+
+-- These are the events that the run has told: they are legal before the first moment of the next tick, and the run stands
+-- where they lead.
+pub record HasTold (s : SimView) (h : History) : Type 0 where
+  pub legal : LegalBefore s.run h (number (length s.run.net.arcs) s.next 0)
+  pub reaches : Reaches s.run s.next 0 s.next h s.progress

@@ -1,18 +1,27 @@
-ghost use Rattle.std.specs.Prelude.{◌≡◌, ◌<◌, ◌≤◌, ◌*◌, ◌^◌, length, vec_len};
-ghost use Rattle.pre_sim.specs.Telling.{Tells, HasCause};
-ghost use Rattle.pre_sim.specs.Reach.{CanRun};
+ghost use Rattle.std.specs.Prelude.{◌≡◌, ◌<◌, ◌≤◌, ◌+◌, ◌*◌, ◌^◌, length, slice_index_or};
+ghost use Rattle.pre_sim.specs.Telling.{HasCause};
+ghost use Rattle.pre_trace.specs.Rules.{last_four};
+ghost use Rattle.pre_trace.specs.Scenario.{no_arc};
+ghost use Rattle.pre_trace.specs.History.{PlainEvent};
+ghost use Rattle.pre_sim.specs.Spelled.{octets_of};
+ghost use Rattle.pre_sim.specs.Parts.{TellsPart, TellsOne, LanePart, LaneFront, RingTells, RingFront, ring_at, count_of};
 
 use crate::halts::Halt;
 use crate::lanes::{Flight, Lane, count_waiting, first_express};
-use crate::plans::{Frame, MAX_FRAME, Plan, arc_at, first_arc, frame_of, put_frame};
+use crate::plans::{Frame, MAX_FRAME, arc_at, put_frame};
 use crate::telling::tell;
 use pre_base::{ArcId, Tick};
 use pre_mpacket::Kind;
 use pre_topo::Network;
-use pre_trace::{Event, Outcome, Watcher, What};
+use pre_trace::{
+    Event, Outcome, Watcher, What, deliveries_are_what_was_sent, events_before_their_end,
+    mpackets_in_order,
+};
 
 /// The check octets of a frame, which stand at its end.
-fn check_of(frame: &Frame) -> [u8; 4] {
+fn check_of(frame: &Frame) -> [u8; 4]
+    ensures { result ≡ last_four (octets_of frame.now) }
+{
     let mut octets = [0u8; MAX_FRAME];
     let size = put_frame(frame, &mut octets);
     [
@@ -24,7 +33,6 @@ fn check_of(frame: &Frame) -> [u8; 4] {
 }
 
 /// The end of the mPacket on an arc, where it is due.
-#[tactic(auto, using(crate::specs::Told::told_nothing, crate::specs::Told::told_then))]
 pub(crate) fn end_on<W: Watcher>(
     net: &Network,
     now: Tick,
@@ -34,10 +42,12 @@ pub(crate) fn end_on<W: Watcher>(
 ) -> Result<(), Halt>
     requires arc { arc.0 < length net.now.arcs }
     requires now { now.0 ≤ 4 * 10 ^ 12 }
-    ensures told { Tells net.now result (W.took watcher.old) (W.took watcher.new) (W.torn watcher.new) }
+    ensures part { TellsPart net.now result (W.took watcher.old) (W.took watcher.new) (W.torn watcher.new) (λ x es. LanePart net.now now.0 (1 + arc.0) arc.0 0 lane.old lane.new es) (LaneFront net.now now.0 (1 + arc.0) arc.0 lane.old) }
     ensures cause { HasCause (W.faults watcher.old) (W.faults watcher.new) result }
     ensures same { W.same watcher.old watcher.new }
 {
+    mpackets_in_order();
+    events_before_their_end();
     let Some(flight) = lane.sending else {
         return Ok(());
     };
@@ -62,7 +72,6 @@ pub(crate) fn end_on<W: Watcher>(
 }
 
 /// The arrival of an mPacket at the end of an arc, where one is due: whether it was.
-#[tactic(auto, using(crate::specs::Told::told_nothing, crate::specs::Told::told_then))]
 pub(crate) fn arrive_on<W: Watcher>(
     net: &Network,
     now: Tick,
@@ -71,11 +80,14 @@ pub(crate) fn arrive_on<W: Watcher>(
     watcher: &mut W,
 ) -> Result<bool, Halt>
     requires arc { arc.0 < length net.now.arcs }
-    ensures told { Tells net.now result (W.took watcher.old) (W.took watcher.new) (W.torn watcher.new) }
+    ensures part { TellsPart net.now result (W.took watcher.old) (W.took watcher.new) (W.torn watcher.new) (λ x es. LanePart net.now now.0 (1 + length net.now.arcs + arc.0) arc.0 (count_of x) lane.old lane.new es) (LaneFront net.now now.0 (1 + length net.now.arcs + arc.0) arc.0 lane.old) }
     ensures cause { HasCause (W.faults watcher.old) (W.faults watcher.new) result }
     ensures same { W.same watcher.old watcher.new }
 {
-    let Some(flight) = lane.flying.first().copied() else {
+    mpackets_in_order();
+    events_before_their_end();
+    deliveries_are_what_was_sent();
+    let Some(flight) = lane.next_arrival() else {
         return Ok(false);
     };
     if flight.due != now {
@@ -94,7 +106,6 @@ pub(crate) fn arrive_on<W: Watcher>(
 }
 
 /// A frame's delivery at the end of an arc.
-#[tactic(auto, using(crate::specs::Told::told_nothing, crate::specs::Told::told_then))]
 fn deliver<W: Watcher>(
     net: &Network,
     now: Tick,
@@ -103,7 +114,7 @@ fn deliver<W: Watcher>(
     watcher: &mut W,
 ) -> Result<(), Halt>
     requires arc { arc.0 < length net.now.arcs }
-    ensures told { Tells net.now result (W.took watcher.old) (W.took watcher.new) (W.torn watcher.new) }
+    ensures one { TellsOne net.now result (W.took watcher.old) (W.took watcher.new) (W.torn watcher.new) (PlainEvent.deliver (record { tick = now.0; node = (slice_index_or net.now.arcs arc.0 no_arc).to.0; frame = frame.now.number.0; octets = octets_of frame.now })) }
     ensures cause { HasCause (W.faults watcher.old) (W.faults watcher.new) result }
     ensures same { W.same watcher.old watcher.new }
 {
@@ -120,7 +131,6 @@ fn deliver<W: Watcher>(
 }
 
 /// A frame's entry into the ring of its priority, or its drop where that is full: whether it entered.
-#[tactic(auto, using(crate::specs::Told::told_nothing, crate::specs::Told::told_then))]
 pub(crate) fn enter<W: Watcher>(
     net: &Network,
     now: Tick,
@@ -130,7 +140,7 @@ pub(crate) fn enter<W: Watcher>(
     watcher: &mut W,
 ) -> Result<bool, Halt>
     requires arc { arc.0 < length net.now.arcs }
-    ensures told { Tells net.now result (W.took watcher.old) (W.took watcher.new) (W.torn watcher.new) }
+    ensures part { TellsPart net.now result (W.took watcher.old) (W.took watcher.new) (W.torn watcher.new) (RingTells now.0 arc.0 (ring_at net.now arc.0 frame.prio) frame waiting.old.items waiting.new.items) (RingFront now.0 arc.0 (ring_at net.now arc.0 frame.prio) frame waiting.old.items) }
     ensures cause { HasCause (W.faults watcher.old) (W.faults watcher.new) result }
     ensures same { W.same watcher.old watcher.new }
 {
@@ -160,7 +170,6 @@ pub(crate) fn enter<W: Watcher>(
 }
 
 /// The begin of the frame that is due on an arc, where it is free.
-#[tactic(auto, using(crate::specs::Told::told_nothing, crate::specs::Told::told_then))]
 pub(crate) fn start_on<W: Watcher>(
     net: &Network,
     now: Tick,
@@ -170,10 +179,12 @@ pub(crate) fn start_on<W: Watcher>(
 ) -> Result<(), Halt>
     requires arc { arc.0 < length net.now.arcs }
     requires now { now.0 ≤ 4 * 10 ^ 12 }
-    ensures told { Tells net.now result (W.took watcher.old) (W.took watcher.new) (W.torn watcher.new) }
+    ensures part { TellsPart net.now result (W.took watcher.old) (W.took watcher.new) (W.torn watcher.new) (λ x es. LanePart net.now now.0 (2 + 3 * length net.now.arcs + arc.0) arc.0 0 lane.old lane.new es) (LaneFront net.now now.0 (2 + 3 * length net.now.arcs + arc.0) arc.0 lane.old) }
     ensures cause { HasCause (W.faults watcher.old) (W.faults watcher.new) result }
     ensures same { W.same watcher.old watcher.new }
 {
+    mpackets_in_order();
+    events_before_their_end();
     if !lane.is_free(now) {
         return Ok(());
     }

@@ -1,4 +1,7 @@
-ghost use Rattle.std.specs.Prelude.{◌≡◌, ◌<◌, ◌≤◌, IfOk, IfSome, length, vec_len};
+ghost use Rattle.std.specs.Prelude.{◌≡◌, ◌<◌, ◌≤◌, IfOk, MatchOption, IsTrue, None, slice_get, ◌↔◌, ◌==◌, count_by, length, vec_len};
+ghost use Rattle.std.specs.List.{AllByRecursion as Every};
+ghost use Rattle.pre_sim.specs.Spelled.{IsFirstHighest};
+ghost use Rattle.pre_sim.specs.Stands.{IsIdle};
 
 use crate::plans::Frame;
 use pre_base::{Prio, Tick};
@@ -28,7 +31,10 @@ pub(crate) struct Lane {
 }
 
 impl Lane {
-    pub fn idle(alloc: Global) -> Lane {
+    /// Nothing is on the arc, and nothing waits.
+    pub fn idle(alloc: Global) -> Lane
+        ensures { IsIdle result }
+    {
         Lane {
             waiting: Vec::new(alloc),
             sending: None,
@@ -38,14 +44,23 @@ impl Lane {
         }
     }
 
-    pub fn is_free(&self, now: Tick) -> bool {
+    pub fn is_free(&self, now: Tick) -> bool
+        ensures { IsTrue result ↔ ((self.now.sending ≡ None) × (self.now.free_from.0 ≤ now.0)) }
+    {
         self.sending.is_none() && self.free_from <= now
+    }
+
+    /// The mPacket that arrives next.
+    pub fn next_arrival(&self) -> Option<Flight>
+        ensures { result ≡ slice_get self.now.flying.items 0 }
+    {
+        self.flying.first().copied()
     }
 }
 
 /// The lanes of a network at rest.
 pub(crate) fn idle_lanes(alloc: Global, count: usize) -> Result<Vec<Lane>, AllocError>
-    ensures { IfOk result (λ lanes. vec_len lanes ≡ count) }
+    ensures { IfOk result (λ lanes. (vec_len lanes ≡ count) × Every IsIdle lanes.items) }
 {
     let mut lanes = Vec::with_capacity(alloc, count)?;
     for _made in 0..count {
@@ -55,13 +70,15 @@ pub(crate) fn idle_lanes(alloc: Global, count: usize) -> Result<Vec<Lane>, Alloc
 }
 
 /// How many frames of this priority wait.
-pub(crate) fn count_waiting(waiting: &[Frame], prio: Prio) -> usize {
+pub(crate) fn count_waiting(waiting: &[Frame], prio: Prio) -> usize
+    ensures { result ≡ count_by (λ f. f.prio == prio) waiting.now }
+{
     waiting.iter().filter(|frame| frame.prio == prio).count()
 }
 
 /// The place of the first frame of the highest priority among those from `least` on.
 pub(crate) fn first_express(waiting: &[Frame], least: u8) -> Option<usize>
-    ensures { IfSome result (λ at. at < length waiting.now) }
+    ensures { MatchOption result (Every (λ f. f.prio < least) waiting.now) (IsFirstHighest least waiting.now) }
 {
     let mut best: Option<(usize, u8)> = None;
     for (at, frame) in waiting.iter().enumerate() {
@@ -74,5 +91,6 @@ pub(crate) fn first_express(waiting: &[Frame], least: u8) -> Option<usize>
             best = Some((at, prio));
         }
     }
-    best.map(|(at, _)| at)
+    let (at, _) = best?;
+    Some(at)
 }

@@ -8,10 +8,11 @@ mod laws;
 mod phases;
 mod plans;
 mod runs;
+mod sends;
 mod telling;
 mod ticks;
 
-pub use laws::pair_can_run;
+pub use laws::{pair_can_run, runs_are_plain};
 pub use runs::{Sim, Step};
 
 #[cfg(test)]

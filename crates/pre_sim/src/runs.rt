@@ -9,7 +9,7 @@ use pre_base::{ArcId, Tick};
 use pre_script::Script;
 use pre_streams::Streams;
 use pre_topo::Network;
-use pre_trace::Watcher;
+use pre_trace::{Watcher, direct_arrivals};
 use std::alloc::{AllocError, Global};
 use std::marker::Model;
 
@@ -44,12 +44,14 @@ impl<'a> Model for Sim<'a> {
 
     ghost Value = { SimView };
 
-    ghost view = { λ s. record { net = s.plan.net.now; until = s.plan.script.now.until.0; next = s.next.0; going = s.going } };
+    ghost view = { λ s. record { run = record { net = s.plan.net.now; streams = s.plan.streams.now; script = s.plan.script.now }; progress = s.progress; next = s.next.0; going = s.going } };
 
-    ghost invariant = { λ s. CanRun s.plan.net.now s.plan.streams.now s.plan.script.now × (vec_len s.progress.lanes ≡ length s.plan.net.now.arcs) × (s.next.0 ≤ s.plan.script.now.until.0) };
+    ghost invariant = { λ s. CanRun s.plan.net.now s.plan.streams.now s.plan.script.now × (vec_len s.progress.lanes ≡ length s.plan.net.now.arcs) × (s.next.0 ≤ s.plan.script.now.until.0) × (s.progress.dropped ≤ s.progress.sent) };
 }
 
 impl<'a> Sim<'a> {
+    ghost use Rattle.std.specs.Prelude.{[]};
+    ghost use Rattle.pre_sim.specs.Views.{HasTold};
     ghost use Rattle.pre_sim.specs.Steps.{is_more, StepTells, StepMoves, StepCause};
 
     /// A run that is about to begin.
@@ -60,8 +62,9 @@ impl<'a> Sim<'a> {
         script: &'a Script,
     ) -> Result<Sim<'a>, AllocError>
         requires { CanRun net.now streams.now script.now }
-        ensures { IfOk result (λ s. (s.net ≡ net.now) × (s.until ≡ script.now.until.0) × (s.next ≡ 0) × (s.going ≡ true)) }
+        ensures { IfOk result (λ s. (s.run ≡ record { net = net.now; streams = streams.now; script = script.now }) × (s.next ≡ 0) × (s.going ≡ true) × HasTold s []) }
     {
+        direct_arrivals();
         let lanes = idle_lanes(alloc, net.arcs.len())?;
         Ok(Sim {
             plan: Plan {
@@ -90,13 +93,14 @@ impl<'a> Sim<'a> {
     /// Does the next tick, and tells the watcher what happens at it.
     pub fn step<W: Watcher>(&mut self, watcher: &mut W) -> Step
         requires { self.old.going ≡ true }
-        ensures told { StepTells self.old.net result (W.took watcher.old) (W.took watcher.new) (W.torn watcher.new) }
+        ensures told { StepTells self.old result self.new (W.took watcher.old) (W.took watcher.new) (W.torn watcher.new) }
         ensures going { self.new.going ≡ is_more result }
         ensures moves { StepMoves result self.old self.new }
-        ensures kept { (self.new.net ≡ self.old.net) × (self.new.until ≡ self.old.until) }
+        ensures kept { self.new.run ≡ self.old.run }
         ensures cause { StepCause result (W.faults watcher.old) (W.faults watcher.new) }
         ensures same { W.same watcher.old watcher.new }
     {
+        direct_arrivals();
         let now = self.next;
         match advance(&self.plan, now, &mut self.progress, watcher) {
             Ok(false) => {

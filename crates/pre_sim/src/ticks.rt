@@ -1,5 +1,6 @@
-ghost use Rattle.std.specs.Prelude.{◌≡◌, ◌↔◌, ◌≤◌, ◌*◌, ◌^◌, IfOk, IsTrue, length, vec_len};
-ghost use Rattle.pre_sim.specs.Telling.{Tells, HasCause};
+ghost use Rattle.std.specs.Prelude.{◌≡◌, ◌↔◌, ◌≤◌, ◌+◌, ◌*◌, ◌^◌, IfOk, IsTrue, length, vec_len, count_by, nat_le};
+ghost use Rattle.pre_sim.specs.Telling.{HasCause};
+ghost use Rattle.pre_sim.specs.Parts.{TellsPart, TellsOne, EntriesPart, EntriesFront, Carries, CarriesFront, TickPart, TickFront, AdvancePart, AdvanceFront, closing_event, scenario_of};
 ghost use Rattle.pre_sim.specs.Reach.{CanRun};
 
 use crate::halts::Halt;
@@ -9,7 +10,9 @@ use crate::plans::Plan;
 use crate::telling::tell;
 use pre_base::Tick;
 use pre_script::Script;
-use pre_trace::{Event, Watcher};
+use pre_trace::{
+    Event, Watcher, deliveries_are_what_was_sent, direct_arrivals, events_before_their_end,
+};
 
 /// How far a run is.
 #[derive(Debug, Drop)]
@@ -23,7 +26,6 @@ pub(crate) struct Progress {
 }
 
 /// The sends of a tick, in the order of their frames.
-#[tactic(auto, using(crate::specs::Told::told_nothing, crate::specs::Told::told_then))]
 fn entries<W: Watcher>(
     plan: &Plan,
     now: Tick,
@@ -32,24 +34,26 @@ fn entries<W: Watcher>(
 ) -> Result<(), Halt>
     requires can { CanRun plan.now.net.now plan.now.streams.now plan.now.script.now }
     requires lanes { vec_len progress.old.lanes ≡ length plan.now.net.now.arcs }
+    requires counts { progress.old.dropped ≤ progress.old.sent }
     ensures lanes { vec_len progress.new.lanes ≡ length plan.now.net.now.arcs }
-    ensures told { Tells plan.now.net.now result (W.took watcher.old) (W.took watcher.new) (W.torn watcher.new) }
+    ensures counts { progress.new.dropped ≤ progress.new.sent }
+    ensures part { TellsPart plan.now.net.now result (W.took watcher.old) (W.took watcher.new) (W.torn watcher.new) (λ x es. EntriesPart (scenario_of plan.now) now.0 progress.old progress.new es) (EntriesFront (scenario_of plan.now) now.0 progress.old) }
     ensures cause { HasCause (W.faults watcher.old) (W.faults watcher.new) result }
     ensures same { W.same watcher.old watcher.new }
 {
+    events_before_their_end();
     let lines = plan.script.sends.as_slice();
     while progress.sent < lines.len() && lines[progress.sent].send.tick == now {
         let number = progress.sent;
         progress.sent = number + 1;
         let entered = send(plan, now, number, &mut progress.lanes, watcher)?;
-        progress.dropped = progress.dropped.saturating_add(u64::from(!entered));
+        progress.dropped += u64::from(!entered);
     }
     Ok(())
 }
 
-/// All that happens at a tick.
-#[tactic(auto, using(crate::specs::Told::told_then, crate::specs::Told::then_some))]
-fn run_tick<W: Watcher>(
+/// What ends and arrives at a tick.
+fn land<W: Watcher>(
     plan: &Plan,
     now: Tick,
     progress: &mut Progress,
@@ -59,19 +63,64 @@ fn run_tick<W: Watcher>(
     requires now { now.0 ≤ 4 * 10 ^ 12 }
     requires lanes { vec_len progress.old.lanes ≡ length plan.now.net.now.arcs }
     ensures lanes { vec_len progress.new.lanes ≡ length plan.now.net.now.arcs }
-    ensures told { Tells plan.now.net.now result (W.took watcher.old) (W.took watcher.new) (W.torn watcher.new) }
+    ensures kept { (progress.new.sent ≡ progress.old.sent) × (progress.new.dropped ≡ progress.old.dropped) }
+    ensures part { TellsPart plan.now.net.now result (W.took watcher.old) (W.took watcher.new) (W.torn watcher.new) (λ x es. Carries (scenario_of plan.now) now.0 0 now.0 now.0 (1 + 3 * length plan.now.net.now.arcs) now.0 progress.old progress.new es) (CarriesFront (scenario_of plan.now) now.0 0 now.0 progress.old) }
     ensures cause { HasCause (W.faults watcher.old) (W.faults watcher.new) result }
     ensures same { W.same watcher.old watcher.new }
 {
+    deliveries_are_what_was_sent();
     ends(plan.net, now, &mut progress.lanes, watcher)?;
     let delivered = arrivals(plan.net, now, &mut progress.lanes, watcher)?;
     progress.delivered = progress.delivered.saturating_add(delivered);
+    Ok(())
+}
+
+/// What comes to rings at a tick, and what begins.
+fn leave<W: Watcher>(
+    plan: &Plan,
+    now: Tick,
+    progress: &mut Progress,
+    watcher: &mut W,
+) -> Result<(), Halt>
+    requires can { CanRun plan.now.net.now plan.now.streams.now plan.now.script.now }
+    requires now { now.0 ≤ 4 * 10 ^ 12 }
+    requires lanes { vec_len progress.old.lanes ≡ length plan.now.net.now.arcs }
+    requires counts { progress.old.dropped ≤ progress.old.sent }
+    ensures lanes { vec_len progress.new.lanes ≡ length plan.now.net.now.arcs }
+    ensures counts { progress.new.dropped ≤ progress.new.sent }
+    ensures part { TellsPart plan.now.net.now result (W.took watcher.old) (W.took watcher.new) (W.torn watcher.new) (λ x es. Carries (scenario_of plan.now) now.0 (1 + 3 * length plan.now.net.now.arcs) now.0 (now.0 + 1) 0 (now.0 + 1) progress.old progress.new es) (CarriesFront (scenario_of plan.now) now.0 (1 + 3 * length plan.now.net.now.arcs) now.0 progress.old) }
+    ensures cause { HasCause (W.faults watcher.old) (W.faults watcher.new) result }
+    ensures same { W.same watcher.old watcher.new }
+{
     entries(plan, now, progress, watcher)?;
     starts(plan.net, now, &mut progress.lanes, watcher)
 }
 
+/// All that happens at a tick.
+fn run_tick<W: Watcher>(
+    plan: &Plan,
+    now: Tick,
+    progress: &mut Progress,
+    watcher: &mut W,
+) -> Result<(), Halt>
+    requires can { CanRun plan.now.net.now plan.now.streams.now plan.now.script.now }
+    requires now { now.0 ≤ 4 * 10 ^ 12 }
+    requires lanes { vec_len progress.old.lanes ≡ length plan.now.net.now.arcs }
+    requires counts { progress.old.dropped ≤ progress.old.sent }
+    ensures lanes { vec_len progress.new.lanes ≡ length plan.now.net.now.arcs }
+    ensures counts { progress.new.dropped ≤ progress.new.sent }
+    ensures part { TellsPart plan.now.net.now result (W.took watcher.old) (W.took watcher.new) (W.torn watcher.new) (λ x es. TickPart (scenario_of plan.now) now.0 progress.old progress.new es) (TickFront (scenario_of plan.now) now.0 progress.old) }
+    ensures cause { HasCause (W.faults watcher.old) (W.faults watcher.new) result }
+    ensures same { W.same watcher.old watcher.new }
+{
+    land(plan, now, progress, watcher)?;
+    leave(plan, now, progress, watcher)
+}
+
 /// How many sends of the script aren't later than its end.
-fn count_sent(script: &Script) -> u64 {
+fn count_sent(script: &Script) -> u64
+    ensures { result ≡ count_by (λ s. nat_le s.send.tick.0 script.now.until.0) script.now.sends }
+{
     let until = script.until;
     script
         .sends
@@ -83,7 +132,7 @@ fn count_sent(script: &Script) -> u64 {
 
 /// The last event of a run.
 fn close<W: Watcher>(plan: &Plan, progress: &Progress, watcher: &mut W) -> Result<(), Halt>
-    ensures told { Tells plan.now.net.now result (W.took watcher.old) (W.took watcher.new) (W.torn watcher.new) }
+    ensures one { TellsOne plan.now.net.now result (W.took watcher.old) (W.took watcher.new) (W.torn watcher.new) (closing_event (scenario_of plan.now) progress.now) }
     ensures cause { HasCause (W.faults watcher.old) (W.faults watcher.new) result }
     ensures same { W.same watcher.old watcher.new }
 {
@@ -97,7 +146,6 @@ fn close<W: Watcher>(plan: &Plan, progress: &Progress, watcher: &mut W) -> Resul
 }
 
 /// A tick, and behind the last one the closing event: whether that was it.
-#[tactic(auto, using(crate::specs::Told::told_then, crate::specs::Told::then_some))]
 pub(crate) fn advance<W: Watcher>(
     plan: &Plan,
     now: Tick,
@@ -107,12 +155,15 @@ pub(crate) fn advance<W: Watcher>(
     requires can { CanRun plan.now.net.now plan.now.streams.now plan.now.script.now }
     requires now { now.0 ≤ 4 * 10 ^ 12 }
     requires lanes { vec_len progress.old.lanes ≡ length plan.now.net.now.arcs }
+    requires counts { progress.old.dropped ≤ progress.old.sent }
     ensures lanes { vec_len progress.new.lanes ≡ length plan.now.net.now.arcs }
+    ensures counts { progress.new.dropped ≤ progress.new.sent }
     ensures last { IfOk result (λ last. IsTrue last ↔ (now ≡ plan.now.script.now.until)) }
-    ensures told { Tells plan.now.net.now result (W.took watcher.old) (W.took watcher.new) (W.torn watcher.new) }
+    ensures part { TellsPart plan.now.net.now result (W.took watcher.old) (W.took watcher.new) (W.torn watcher.new) (λ last es. AdvancePart (scenario_of plan.now) now.0 progress.old progress.new last es) (AdvanceFront (scenario_of plan.now) now.0 progress.old) }
     ensures cause { HasCause (W.faults watcher.old) (W.faults watcher.new) result }
     ensures same { W.same watcher.old watcher.new }
 {
+    direct_arrivals();
     run_tick(plan, now, progress, watcher)?;
     if now != plan.script.until {
         return Ok(false);

@@ -1,10 +1,13 @@
-use Rattle.std.proofs.Common.{◌≤◌}
-use Rattle.pre_sim.specs.Telling.{TellsSome}
+use Rattle.std.proofs.Common.{◌≤◌, ◌+◌, length}
+use Rattle.pre_trace.specs.History.{History}
+use Rattle.pre_sim.specs.Telling.{TellsAll}
+use Rattle.pre_sim.specs.Parts.{LanesPart}
 use Rattle.pre_sim.proofs.phases.arrivals.Given as goal
 
 abbrev pub invariant-loop-arc : goal.invariant-loop-arc
 invariant-loop-arc g l = record {
-  told : TellsSome l.net (g.W.Watcher.took l.fn.watcher) (g.W.Watcher.took l.watcher);
+  part : (es : History) × TellsAll l.net (g.W.Watcher.took l.fn.watcher) (g.W.Watcher.took l.watcher) es × LanesPart l.net l.now.0 (1 + length l.net.arcs) l.arc l.delivered l.fn.lanes l.lanes es;
+  few : l.delivered ≤ l.arc;
   later : g.W.Watcher.faults l.fn.watcher ≤ g.W.Watcher.faults l.watcher;
   same : g.W.Watcher.same l.fn.watcher l.watcher;
 }

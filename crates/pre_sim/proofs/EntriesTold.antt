@@ -1,0 +1,74 @@
+-- What becomes of a frame that comes to its ring, told to a history in which all is earlier.
+use Rattle.std.proofs.Common.{ℕ, ◌≡◌, ◌==◌, ◌&&◌, ◌<◌, ◌≤◌, not, Bool, true, false, List, [], ◌∷◌, ◌++◌, refl, sym, ◌∙◌, ap, subst, Some, None, map, filter, Result, Ok, Err}
+use Rattle.std.specs.Prelude.{if◌then◌else◌}
+use Rattle.std.specs.List.{list_any, AllByRecursion as Every, cons_option}
+use Rattle.std.proofs.Math.Path.{fun_ext}
+use Rattle.std.proofs.lemmas.List.{append-nil, map-append}
+use Rattle.std.proofs.lemmas.List.Elements.{filter_map-append, filter-append}
+use Rattle.pre_topo.specs.declared.network.Network.{Network}
+use Rattle.pre_trace.specs.History.{PlainEvent, History, Begin, Entry}
+use Rattle.pre_trace.specs.Selected.{RingEntry, what_is, entry_on, entry_of, begin_on}
+use Rattle.pre_trace.specs.Queries.{Begins, Entries}
+use Rattle.pre_sim.specs.declared.halts.Halt.{Halt}
+use Rattle.pre_sim.specs.declared.halts.Halt.TheVariants.{Stopped, Memory}
+use Rattle.pre_sim.specs.Parts.{TellsPart}
+use Rattle.pre_sim.specs.Stands.{has_begun, StillWaiting}
+use Rattle.pre_sim.specs.Sends.{BeforeEntries}
+use Rattle.pre_sim.proofs.Lists.{every-append}
+
+-- a part that says more
+pub says_more : {T : Type 0} (net : Network) (r : Result T Halt) (old new : List ℕ → History → Type 0) (torn : List ℕ → History → PlainEvent → Type 0) (Whole Whole' : T → History → Type 0) (Front Front' : History → Type 0)
+    → ((x : T) (es : History) → Whole x es → Whole' x es) → ((es : History) → Front es → Front' es) → TellsPart net r old new torn Whole Front → TellsPart net r old new torn Whole' Front'
+says_more net (Ok x) old new torn Whole Whole' Front Front' whole front p = (p.0, p.1, whole x p.0 p.2)
+says_more net (Err Memory) old new torn Whole Whole' Front Front' whole front p = (p.0, p.1, front p.0 p.2)
+says_more net (Err Stopped) old new torn Whole Whole' Front Front' whole front p = (p.0, p.1, p.2, p.3, p.4, front (p.0 ++ p.1 ∷ []) p.5)
+
+-- ---- a drop leaves what waits
+
+abbrev still : (ℕ → Bool) → List RingEntry → List ℕ
+still begun xs = map (λ (e : RingEntry). e.frame) (filter (λ (e : RingEntry). e.entered && not (begun e.frame)) xs)
+
+none_waits : (begun : ℕ → Bool) (a p : ℕ) (e : Entry) → still begun (cons_option (entry_of a p false e) []) ≡ []
+none_waits begun a p e = go ((e.arc == a) && (e.prio == p))
+  where
+    go : (b : Bool) → still begun (cons_option (if b then Some (record { tick = e.tick; frame = e.frame; entered = false }) else None) []) ≡ []
+    go true = refl
+    go false = refl
+
+pub still_dropped : (h : History) (a : ℕ) (e : Entry) → StillWaiting h a ≡ StillWaiting (h ++ PlainEvent.dropped e ∷ []) a
+unfolding StillWaiting
+still_dropped h a e = fun_ext (λ p. sym (one p))
+  where
+    begins : Begins (h ++ PlainEvent.dropped e ∷ []) a ≡ Begins h a
+    begins = filter_map-append (begin_on a) h (PlainEvent.dropped e ∷ []) ∙ append-nil (Begins h a)
+
+    one : (p : ℕ) → still (has_begun (h ++ PlainEvent.dropped e ∷ []) a) (Entries (h ++ PlainEvent.dropped e ∷ []) a p) ≡ still (has_begun h a) (Entries h a p)
+    one p =
+        ap (λ (bs : List Begin). still (λ f. list_any (λ (x : Begin). what_is x.what f && (x.from == 0)) bs) (Entries (h ++ PlainEvent.dropped e ∷ []) a p)) begins
+        ∙ (ap (still (has_begun h a)) (filter_map-append (entry_on a p) h (PlainEvent.dropped e ∷ []))
+        ∙ (ap (map (λ (x : RingEntry). x.frame)) (filter-append (λ (x : RingEntry). x.entered && not (has_begun h a x.frame)) (Entries h a p) (Entries (PlainEvent.dropped e ∷ []) a p))
+        ∙ (map-append (λ (x : RingEntry). x.frame) (filter (λ (x : RingEntry). x.entered && not (has_begun h a x.frame)) (Entries h a p)) (filter (λ (x : RingEntry). x.entered && not (has_begun h a x.frame)) (Entries (PlainEvent.dropped e ∷ []) a p))
+        ∙ (ap (λ xs. still (has_begun h a) (Entries h a p) ++ xs) (none_waits (has_begun h a) a p e) ∙ append-nil (still (has_begun h a) (Entries h a p))))))
+
+-- ---- all stays earlier
+
+one_by : (t a p : ℕ) (entered : Bool) (e : Entry) → e.tick ≤ t → Every (λ (r : RingEntry). r.tick ≤ t) (cons_option (entry_of a p entered e) [])
+one_by t a p entered e by = go ((e.arc == a) && (e.prio == p))
+  where
+    go : (b : Bool) → Every (λ (r : RingEntry). r.tick ≤ t) (cons_option (if b then Some (record { tick = e.tick; frame = e.frame; entered = entered }) else None) [])
+    go true = (by, tt)
+    go false = tt
+
+pub early_entered : (t : ℕ) (h : History) (e : Entry) → e.tick ≤ t → BeforeEntries t h → BeforeEntries t (h ++ PlainEvent.enter e ∷ [])
+early_entered t h e by early = record {
+  begins = λ a. subst (λ bs. Every (λ (b : Begin). b.tick < t) bs) (sym (filter_map-append (begin_on a) h (PlainEvent.enter e ∷ []) ∙ append-nil (Begins h a))) (early.begins a);
+  entries = λ a p. subst (λ rs. Every (λ (r : RingEntry). r.tick ≤ t) rs) (sym (filter_map-append (entry_on a p) h (PlainEvent.enter e ∷ [])))
+      (every-append (λ (r : RingEntry). r.tick ≤ t) (Entries h a p) (Entries (PlainEvent.enter e ∷ []) a p) (early.entries a p) (one_by t a p true e by));
+}
+
+pub early_dropped : (t : ℕ) (h : History) (e : Entry) → e.tick ≤ t → BeforeEntries t h → BeforeEntries t (h ++ PlainEvent.dropped e ∷ [])
+early_dropped t h e by early = record {
+  begins = λ a. subst (λ bs. Every (λ (b : Begin). b.tick < t) bs) (sym (filter_map-append (begin_on a) h (PlainEvent.dropped e ∷ []) ∙ append-nil (Begins h a))) (early.begins a);
+  entries = λ a p. subst (λ rs. Every (λ (r : RingEntry). r.tick ≤ t) rs) (sym (filter_map-append (entry_on a p) h (PlainEvent.dropped e ∷ [])))
+      (every-append (λ (r : RingEntry). r.tick ≤ t) (Entries h a p) (Entries (PlainEvent.dropped e ∷ []) a p) (early.entries a p) (one_by t a p false e by));
+}

@@ -1,0 +1,69 @@
+-- Whether an arc is occupied, by what the lane says.
+use Rattle.std.proofs.Common.{ℕ, zero, suc, ◌≡◌, ◌==◌, ◌+◌, ◌-◌, ◌*◌, ◌<◌, ◌≤◌, true, false, List, [], ◌∷◌, length, refl, sym, ◌∙◌, ap, arith, subst, Some, None, filter}
+use Rattle.std.specs.Prelude.{slice_get, MatchOption, ⊤}
+use Rattle.std.specs.List.{AllByRecursion as Every}
+use Rattle.std.proofs.lemmas.Bool.Decides.{nat_tests}
+use Rattle.pre_trace.specs.Scenario.{Scenario, arc}
+use Rattle.pre_trace.specs.History.{History, Begin, Ended}
+use Rattle.pre_trace.specs.Queries.{Begins, Ends, Packet, Packets, packet, end_of, IsUnderWay, Occupied}
+use Rattle.pre_trace.specs.Ordered.{IsOrdered}
+use Rattle.pre_sim.specs.declared.lanes.Flight.{Flight}
+use Rattle.pre_sim.specs.Stands.{IsSent, IsFreeFrom}
+use Rattle.pre_sim.proofs.Lists.{there, within, every_at, found_at, any_at, past_end, map_at, at_map}
+
+is_eq : (m n : ℕ) → m ≡ n → (m == n) ≡ true
+is_eq m n e = grind (arith, nat_tests)
+
+no_eq : (m n : ℕ) → m < n → (m == n) ≡ false
+no_eq m n lt = grind (arith, nat_tests)
+
+-- where ordinals are places, the end with an ordinal stands at that place
+first_numbered : (xs : List Ended) (n i t : ℕ) → t ≡ n + i → ((j : ℕ) (e : Ended) → slice_get xs j ≡ Some e → e.ord ≡ n + j) → slice_get (filter (λ e. e.ord == t) xs) 0 ≡ slice_get xs i
+first_numbered [] n i t is places = refl
+first_numbered (x ∷ xs) n zero t is places =
+    let here : x.ord ≡ n + 0 = places 0 x refl in
+    let test : (x.ord == t) ≡ true = is_eq x.ord t (here ∙ sym is) in
+    rw test refl
+first_numbered (x ∷ xs) n (suc i) t is places =
+    let here : x.ord ≡ n + 0 = places 0 x refl in
+    let test : (x.ord == t) ≡ false = no_eq x.ord t (omega (arith, here, is)) in
+    rw test (first_numbered xs (suc n) i t (omega (arith, is)) (λ j e at. let there' : e.ord ≡ n + suc j = places (suc j) e at in omega (arith, there')))
+
+module _ (w : Scenario) (h : History) (t a : ℕ) (order : IsOrdered w h a) where
+  end_at : (i : ℕ) (b : Begin) → slice_get (Begins h a) i ≡ Some b → end_of h a b.ord ≡ slice_get (Ends h a) i
+  end_at i b at =
+      let ord : b.ord ≡ i = order.begin_places i b at in
+      first_numbered (Ends h a) 0 i b.ord (omega (arith, ord)) (λ j e here. let is : e.ord ≡ j = order.end_places j e here in omega (arith, is))
+
+  -- nothing is being sent, and the gap is over
+  pub not_occupied : (free : ℕ) → length (Begins h a) ≡ length (Ends h a) → IsFreeFrom w a (Ends h a) free → free ≤ t → ¬ Occupied w h a t
+  unfolding Packets
+  not_occupied free all is over (i, p, lt, read, (begun, busy)) =
+      let x = map_at (packet h a) (Begins h a) i p (found_at (Packets h a) i p lt read) in
+      let e = there (Ends h a) i (omega (arith, all, within (Begins h a) i x.0 x.1)) in
+      let behind : e.0.tick + 12 * (arc w a).cost ≤ free = every_at (λ (e : Ended). e.tick + 12 * (arc w a).cost ≤ free) (Ends h a) i e.0 is.behind e.1 in
+      let its : p.ended ≡ Some e.0 = ap (λ (q : Packet). q.ended) (sym x.2) ∙ (end_at i x.0 x.1 ∙ e.1) in
+      let under : t < e.0.tick + 12 * (arc w a).cost = subst (λ o. MatchOption o ⊤ (λ e. t < e.tick + 12 * (arc w a).cost)) its busy in
+      omega (arith, behind, over, under)
+
+  packet_at : (i : ℕ) (b : Begin) → slice_get (Begins h a) i ≡ Some b → slice_get (Packets h a) i ≡ Some (packet h a b)
+  unfolding Packets
+  packet_at i b at = at_map (packet h a) (Begins h a) i b at
+
+  -- an mPacket is being sent
+  pub occupied_sending : (flight : Flight) (is : IsSent w a (Begins h a) (Ends h a) flight) → is.begin.tick < t → Occupied w h a t
+  occupied_sending flight is before =
+      let none : end_of h a is.begin.ord ≡ None = end_at (length (Ends h a)) is.begin is.last ∙ past_end (Ends h a) (length (Ends h a)) (omega arith) in
+      any_at (IsUnderWay w h a t) (Packets h a) (length (Ends h a)) (packet h a is.begin) (packet_at (length (Ends h a)) is.begin is.last)
+      (before, subst (λ o. MatchOption o ⊤ (λ e. t < e.tick + 12 * (arc w a).cost)) (sym none) tt)
+
+  -- the gap isn't over
+  pub occupied_gap : (free : ℕ) → length (Begins h a) ≡ length (Ends h a) → IsFreeFrom w a (Ends h a) free → t < free → Every (λ (b : Begin). b.tick < t) (Begins h a) → Occupied w h a t
+  occupied_gap free all is later early =
+      let x = is.least (omega (arith, later)) in
+      let i = length (Ends h a) - 1 in
+      let b = there (Begins h a) i (omega (arith, all, within (Ends h a) i x.0 x.1)) in
+      let its : end_of h a b.0.ord ≡ Some x.0 = end_at i b.0 b.1 ∙ x.1 in
+      let before : b.0.tick < t = every_at (λ (b : Begin). b.tick < t) (Begins h a) i b.0 early b.1 in
+      any_at (IsUnderWay w h a t) (Packets h a) i (packet h a b.0) (packet_at i b.0 b.1)
+      (before, subst (λ o. MatchOption o ⊤ (λ e. t < e.tick + 12 * (arc w a).cost)) (sym its) (omega (arith, later, x.2)))

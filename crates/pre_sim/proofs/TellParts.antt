@@ -1,0 +1,76 @@
+-- What was told by a part that tells one event, or none.
+use Rattle.std.proofs.Common.{◌≡◌, ℕ, List, [], ◌∷◌, ◌++◌, Result, Ok, Err, refl, sym, subst, append_assoc}
+use Rattle.std.specs.Result.{IsErr, IsErrAnd}
+use Rattle.std.proofs.Common.{Bool, true, false}
+use mir.Val.{bool_byte}
+use Rattle.std.proofs.lemmas.Bool.{false≢true}
+use Rattle.std.proofs.lemmas.List.{append-nil}
+use Rattle.pre_topo.specs.declared.network.Network.{Network}
+use Rattle.pre_trace.specs.History.{PlainEvent, History}
+use Rattle.pre_sim.specs.declared.halts.Halt.{Halt}
+use Rattle.pre_sim.specs.declared.halts.Halt.TheVariants.{Stopped, Memory}
+use Rattle.pre_sim.specs.Telling.{TellsAll}
+use Rattle.pre_trace.specs.Written.{AreWritten-append}
+use Rattle.pre_sim.specs.Told.{tells_nothing, tells_then}
+use Rattle.pre_sim.specs.Parts.{TellsOne, TellsPart, count_of}
+
+abbrev Takes : Type 1
+Takes = List ℕ → History → Type 0
+
+abbrev Fails : Type 1
+Fails = List ℕ → History → PlainEvent → Type 0
+
+-- nothing
+pub part_of_none : (net : Network) (took : Takes) (Whole : History → Type 0) → Whole [] → (es : History) × TellsAll net took took es × Whole es
+part_of_none net took Whole is = ([], tells_nothing net took, is)
+
+-- one event
+pub part_of_one : {T : Type 0} (net : Network) (r : Result T Halt) (old new : Takes) (torn : Fails) (e : PlainEvent) (Whole : T → History → Type 0) (Front : History → Type 0)
+    → TellsOne net r old new torn e → ((x : T) → Whole x (e ∷ [])) → Front (e ∷ []) → TellsPart net r old new torn Whole Front
+part_of_one net (Ok x) old new torn e Whole Front told is front = (e ∷ [], told, is x)
+part_of_one net (Err Memory) old new torn e Whole Front told is front = absurd told
+part_of_one net (Err Stopped) old new torn e Whole Front told is front = ([], e, tt, told.0, λ base h t. subst (λ g. torn base g e) (sym (append-nil h)) (told.1 base h t), front)
+
+-- want of memory before anything was told
+pub part_without_memory : {T : Type 0} (net : Network) (r : Result T Halt) (took : Takes) (torn : Fails) (Whole : T → History → Type 0) (Front : History → Type 0)
+    → IsErr r → IsErrAnd r (λ e. e ≡ Memory) → Front [] → TellsPart net r took took torn Whole Front
+part_without_memory net (Ok x) took torn Whole Front err is front = absurd (false≢true err)
+part_without_memory net (Err d) took torn Whole Front err is front =
+    subst (λ x. TellsPart net (Err x) took took torn Whole Front) (sym is) ([], tells_nothing net took, front)
+
+-- a part that ended early, after others
+pub then_front : {T U : Type 0} (net : Network) (r : Result T Halt) (s : Result U Halt) (a b c : Takes) (torn : Fails) (es : History) (Whole : T → History → Type 0) (Front : History → Type 0) (Whole' : U → History → Type 0) (Front' : History → Type 0)
+    → TellsAll net a b es → TellsPart net r b c torn Whole Front → ((fs : History) → Front fs → Front' (es ++ fs)) → (d : Halt) → r ≡ Err d → s ≡ Err d → TellsPart net s a c torn Whole' Front'
+then_front net r s a b c torn es Whole Front Whole' Front' told part more d r_is s_is =
+    subst (λ x. TellsPart net x a c torn Whole' Front') (sym s_is) (go d (subst (λ x. TellsPart net x b c torn Whole Front) r_is part))
+  where
+    go : (d : Halt) → TellsPart net (Err d) b c torn Whole Front → TellsPart net (Err d) a c torn Whole' Front'
+    go Memory q = (es ++ q.0, tells_then net a b c es q.0 told q.1, more q.0 q.2)
+    go Stopped q = (
+      es ++ q.0,
+      q.1,
+      AreWritten-append net es q.0 told.0 q.2,
+      q.3,
+      λ base h t. subst (λ g. torn base g q.1) (append_assoc h es q.0) (q.4 base (h ++ es) (told.1 base h t)),
+      subst Front' (sym (append_assoc es q.0 (q.1 ∷ []))) (more (q.0 ++ q.1 ∷ []) q.5),
+    )
+
+-- a part after others, however it ended
+pub then_part : {T : Type 0} (net : Network) (r : Result T Halt) (a b c : Takes) (torn : Fails) (es : History) (Whole Whole' : T → History → Type 0) (Front Front' : History → Type 0)
+    → TellsAll net a b es → TellsPart net r b c torn Whole Front → ((x : T) (fs : History) → Whole x fs → Whole' x (es ++ fs)) → ((fs : History) → Front fs → Front' (es ++ fs))
+    → TellsPart net r a c torn Whole' Front'
+then_part net (Ok x) a b c torn es Whole Whole' Front Front' told part more front = (es ++ part.0, tells_then net a b c es part.0 told part.1, more x part.0 part.2)
+then_part net (Err Memory) a b c torn es Whole Whole' Front Front' told part more front = (es ++ part.0, tells_then net a b c es part.0 told part.1, front part.0 part.2)
+then_part net (Err Stopped) a b c torn es Whole Whole' Front Front' told part more front = (
+  es ++ part.0,
+  part.1,
+  AreWritten-append net es part.0 told.0 part.2,
+  part.3,
+  λ base h t. subst (λ g. torn base g part.1) (append_assoc h es part.0) (part.4 base (h ++ es) (told.1 base h t)),
+  subst Front' (sym (append_assoc es part.0 (part.1 ∷ []))) (front (part.0 ++ part.1 ∷ []) part.5),
+)
+
+-- the number that a test is
+pub byte_of : (b : Bool) → bool_byte b ≡ count_of b
+byte_of true = refl
+byte_of false = refl

@@ -1,0 +1,192 @@
+-- The parts of a tick, one after another, and the end of a run.
+use Rattle.std.proofs.Common.{ℕ, zero, suc, ◌≡◌, ◌≢◌, ◌+◌, ◌-◌, ◌*◌, ◌<◌, ◌≤◌, ◌^◌, Bool, true, List, [], ◌∷◌, ◌++◌, length, refl, sym, ◌∙◌, ap, inl, inr, arith, subst, map, length-append, append_assoc}
+use Rattle.std.specs.Prelude.{slice_index_or, count_by, nat_le, All, AllPairs, min, ◌||◌}
+use Rattle.std.specs.List.{list_any, AllByRecursion as Every}
+use Rattle.std.proofs.lemmas.List.{append-nil, length-map}
+use Rattle.std.proofs.lemmas.List.Elements.{filter_map-append, recursion_from_All}
+use Rattle.std.proofs.lemmas.Bool.{false≢true}
+use Rattle.std.proofs.Math.Dec.{eqb}
+use Rattle.std.proofs.lemmas.Map.Made.{IsDistinct-from_AllPairs}
+use Rattle.std.proofs.lemmas.Bool.Decides.{Decides-eqb, eqb_tells}
+use Rattle.std.proofs.lemmas.Map.Steps.{length-le_from_distinct_below}
+use Rattle.pre_trace.specs.Scenario.{Scenario}
+use Rattle.pre_trace.specs.Moments.{Phase, moments}
+use Rattle.pre_trace.specs.History.{PlainEvent, History, Delivery}
+use Rattle.pre_trace.specs.Selected.{delivery_of, is_dropped}
+use Rattle.pre_trace.specs.Queries.{Arrivals, Deliveries}
+use Rattle.pre_trace.specs.Placed.{number}
+use Rattle.pre_trace.specs.Deliveries.{DeliversOnce}
+use Rattle.pre_trace.specs.Legal.{LegalUpTo, Legal, Alias, CountLines, closing, last_moment}
+use Rattle.pre_sim.specs.declared.lanes.Lane.{Lane}
+use Rattle.pre_sim.specs.declared.ticks.Progress.{Progress}
+use Rattle.pre_sim.specs.Reach.{CanRun}
+use Rattle.pre_sim.specs.Stands.{LanesStand, AreSentBefore, Reaches}
+use Rattle.pre_sim.specs.Parts.{LegalAt, IsFront, LanesPart, LanesFront, EntriesPart, EntriesFront, Carries, CarriesFront, TickPart, TickFront, AdvancePart, AdvanceFront, closing_event}
+use Rattle.pre_sim.proofs.Lists.{count_by-append}
+use Rattle.pre_sim.proofs.Moments.{one_more, expiries_place}
+use Rattle.pre_sim.proofs.Calm.{calm_sets, calm_expiries}
+
+-- ---- at most as many deliveries as sends
+
+read_map : (ds : List Delivery) (i : ℕ) (z : Delivery) → slice_index_or (map (λ (d : Delivery). d.frame) ds) i z.frame ≡ (slice_index_or ds i z).frame
+read_map [] i z = refl
+read_map (d ∷ ds) zero z = refl
+read_map (d ∷ ds) (suc i) z = read_map ds i z
+
+apart : (ds : List Delivery) → AllPairs (λ (d : Delivery) (e : Delivery). d.frame ≢ e.frame) ds → AllPairs (λ (m : ℕ) (n : ℕ). m ≢ n) (map (λ (d : Delivery). d.frame) ds)
+apart ds pairs i j d lt within same =
+    let z : Delivery = record { tick = 0; node = 0; frame = d; octets = [] } in
+    let long : length (map (λ (d : Delivery). d.frame) ds) ≡ length ds = length-map ds (λ (d : Delivery). d.frame) in
+    pairs i j z lt (omega (arith, within, long)) (sym (read_map ds i z) ∙ (same ∙ read_map ds j z))
+
+below_all : (n : ℕ) (ds : List Delivery) → Every (λ (d : Delivery). d.frame < n) ds → (q : ℕ) → list_any (eqb q) (map (λ (d : Delivery). d.frame) ds) ≡ true → q < n
+below_all n [] known q is = absurd (false≢true is)
+below_all n (d ∷ ds) (here, more) q is = elim (eqb_tells q d.frame) [
+  | inl same ↦ omega (arith, here, same.1)
+  | inr other ↦ below_all n ds more q (sym (ap (λ (b : Bool). b || list_any (eqb q) (map (λ (d : Delivery). d.frame) ds)) other.0) ∙ is)
+]
+
+few_delivered : (n : ℕ) (ds : List Delivery) → All (λ (d : Delivery). d.frame < n) ds → AllPairs (λ (d : Delivery) (e : Delivery). d.frame ≢ e.frame) ds → length ds ≤ n
+few_delivered n ds known pairs =
+    let long : length (map (λ (d : Delivery). d.frame) ds) ≡ length ds = length-map ds (λ (d : Delivery). d.frame) in
+    let few = length-le_from_distinct_below (map (λ (d : Delivery). d.frame) ds) n (IsDistinct-from_AllPairs Decides-eqb (map (λ (d : Delivery). d.frame) ds) (apart ds pairs)) (below_all n ds (recursion_from_All (λ (d : Delivery). d.frame < n) ds known)) in
+    omega (arith, few, long)
+
+module _ (w : Scenario) (can : CanRun w.net w.streams w.script) where
+  abbrev A : ℕ
+  A = length w.net.arcs
+
+  -- nothing is set
+  after_sets : (t : ℕ) (h : History) → LegalAt w t 0 h → LegalAt w t 1 h
+  after_sets t h legal = subst (LegalAt w t 1) (append-nil h) (one_more w t 0 Phase.sets h [] (omega arith) refl (calm_sets w can h t) legal)
+
+  -- nothing expires
+  expired : (t n : ℕ) (h : History) → n ≤ A → LegalAt w t (1 + 2 * A) h → LegalAt w t (1 + 2 * A + n) h
+  expired t zero h le legal = subst (λ m. LegalAt w t m h) (plus_none (1 + 2 * A)) legal
+    where
+      plus_none : (x : ℕ) → x ≡ x + 0
+      plus_none x = omega arith
+  expired t (suc n) h le legal =
+      let before = expired t n h (omega (arith, le)) legal in
+      subst (λ m. LegalAt w t m h) (next (1 + 2 * A) n)
+      (subst (LegalAt w t (1 + 2 * A + n + 1)) (append-nil h) (one_more w t (1 + 2 * A + n) (Phase.expiries n) h [] (omega (arith, le)) (expiries_place A n (omega (arith, le))) (calm_expiries w can h t n (omega (arith, le))) before))
+    where
+      next : (x y : ℕ) → x + y + 1 ≡ x + suc y
+      next x y = omega arith
+
+  module _ (t d : ℕ) (old new : Progress) (a b c e : List Lane) (es fs : History) (is_a : a ≡ old.lanes.items) (first : LanesPart w.net t 1 A 0 a b es) (is_c : c ≡ b) where
+    first_done : (h : History) → Reaches w t 0 t h old → LegalAt w t (1 + A) (h ++ es) × LanesStand w (h ++ es) old.sent c
+    first_done h r =
+        let done = first.legal w refl can h old.sent (after_sets t h r.legal) (subst (LanesStand w h old.sent) (sym is_a) r.lanes) in
+        (done.0, subst (LanesStand w (h ++ es) old.sent) (sym is_c) done.1)
+
+    -- the ends and arrivals of a tick
+    pub landed : LanesPart w.net t (1 + A) A d c e fs → new.lanes.items ≡ e → new.sent ≡ old.sent → new.dropped ≡ old.dropped → new.delivered ≡ min (old.delivered + d) (2 ^ 64 - 1)
+        → ((n : ℕ) (h : History) → LegalUpTo w n h → DeliversOnce w h) → Carries w t 0 t t (1 + 3 * A) t old new (es ++ fs)
+    landed second is_new sent dropped delivered once h r =
+        let one = first_done h r in
+        let two = second.legal w refl can (h ++ es) old.sent one.0 one.1 in
+        let legal' : LegalAt w t (1 + 2 * A) ((h ++ es) ++ fs) = subst (λ m. LegalAt w t m ((h ++ es) ++ fs)) (omega arith) two.0 in
+        let legal : LegalAt w t (1 + 3 * A) ((h ++ es) ++ fs) = subst (λ m. LegalAt w t m ((h ++ es) ++ fs)) (omega arith) (expired t A ((h ++ es) ++ fs) (omega arith) legal') in
+        let all : length (Deliveries ((h ++ es) ++ fs)) ≡ length (Deliveries h) + 0 + d
+        = ap length (filter_map-append delivery_of (h ++ es) fs) ∙ (length-append (Deliveries (h ++ es)) (Deliveries fs)
+        ∙ adds (ap length (filter_map-append delivery_of h es) ∙ (length-append (Deliveries h) (Deliveries es) ∙ adds refl first.deliveries)) second.deliveries) in
+        let drops : count_by is_dropped ((h ++ es) ++ fs) ≡ count_by is_dropped h + 0 + 0
+        = count_by-append is_dropped (h ++ es) fs ∙ adds (count_by-append is_dropped h es ∙ adds refl first.drops) second.drops in
+        let o = once (number A t (1 + 3 * A)) ((h ++ es) ++ fs) legal in
+        let few : length (Deliveries ((h ++ es) ++ fs)) ≤ length w.script.sends = few_delivered (length w.script.sends) (Deliveries ((h ++ es) ++ fs)) o.known o.once in
+        let long : length w.script.sends ≤ 100000 = can.script_fits.sends_count in
+        subst (λ g. Reaches w t (1 + 3 * A) t g new) (append_assoc h es fs) (record {
+          legal = legal;
+          lanes = subst (λ n. LanesStand w ((h ++ es) ++ fs) n new.lanes.items) (sym sent) (subst (LanesStand w ((h ++ es) ++ fs) old.sent) (sym is_new) two.1);
+          sends = subst (AreSentBefore w t) (sym sent) r.sends;
+          deliveries = omega (arith, all, few, long, delivered, r.deliveries);
+          drops = dropped ∙ (r.drops ∙ omega (arith, drops));
+        })
+      where
+        adds : {a b c e : ℕ} → a ≡ b → c ≡ e → a + c ≡ b + e
+        adds p q = omega (arith, p, q)
+
+    -- it ended early
+    pub landed_front : LanesFront w.net t (1 + A) c fs → CarriesFront w t 0 t old (es ++ fs)
+    landed_front front h r = let one = first_done h r in subst (IsFront w) (append_assoc h es fs) (front w refl can (h ++ es) old.sent one.0 one.1)
+
+  pub ends_front : (t : ℕ) (old : Progress) (a : List Lane) (es : History) → a ≡ old.lanes.items → LanesFront w.net t 1 a es → CarriesFront w t 0 t old es
+  ends_front t old a es is_a front h r = front w refl can h old.sent (after_sets t h r.legal) (subst (LanesStand w h old.sent) (sym is_a) r.lanes)
+
+  module _ (t : ℕ) (old mid : Progress) (c e : List Lane) (es fs : History) (first : EntriesPart w t old mid es) (is_c : c ≡ mid.lanes.items) where
+    entered : (h : History) → Reaches w t (1 + 3 * A) t h old → LegalAt w t (2 + 3 * A) (h ++ es) × LanesStand w (h ++ es) mid.sent c × AreSentBefore w (t + 1) mid.sent
+    entered h r =
+        let done = first.legal h r.legal r.lanes r.sends in
+        (done.0, subst (LanesStand w (h ++ es) mid.sent) (sym is_c) done.1, done.2)
+
+    -- the entries and starts of a tick
+    pub left : (new : Progress) → LanesPart w.net t (2 + 3 * A) A 0 c e fs → new.lanes.items ≡ e → new.sent ≡ mid.sent → new.dropped ≡ mid.dropped → new.delivered ≡ mid.delivered
+        → Carries w t (1 + 3 * A) t (t + 1) 0 (t + 1) old new (es ++ fs)
+    left new second is_new sent dropped delivered h r =
+        let one = entered h r in
+        let two = second.legal w refl can (h ++ es) mid.sent one.0 one.1 in
+        let legal : LegalAt w (t + 1) 0 ((h ++ es) ++ fs) = subst (λ m. LegalUpTo w m ((h ++ es) ++ fs)) (omega arith) two.0 in
+        let all : length (Deliveries ((h ++ es) ++ fs)) ≡ length (Deliveries h) + 0 + 0
+        = ap length (filter_map-append delivery_of (h ++ es) fs) ∙ (length-append (Deliveries (h ++ es)) (Deliveries fs)
+        ∙ adds (ap length (filter_map-append delivery_of h es) ∙ (length-append (Deliveries h) (Deliveries es) ∙ adds refl first.deliveries)) second.deliveries) in
+        let drops : count_by is_dropped ((h ++ es) ++ fs) ≡ (count_by is_dropped h + count_by is_dropped es) + 0
+        = count_by-append is_dropped (h ++ es) fs ∙ adds (count_by-append is_dropped h es) second.drops in
+        subst (λ g. Reaches w (t + 1) 0 (t + 1) g new) (append_assoc h es fs) (record {
+          legal = legal;
+          lanes = subst (λ n. LanesStand w ((h ++ es) ++ fs) n new.lanes.items) (sym sent) (subst (LanesStand w ((h ++ es) ++ fs) mid.sent) (sym is_new) two.1);
+          sends = subst (AreSentBefore w (t + 1)) (sym sent) one.2;
+          deliveries = omega (arith, all, delivered, first.delivered, r.deliveries);
+          drops = omega (arith, drops, dropped, first.drops, r.drops);
+        })
+      where
+        adds : {a b c e : ℕ} → a ≡ b → c ≡ e → a + c ≡ b + e
+        adds p q = omega (arith, p, q)
+
+    pub left_front : LanesFront w.net t (2 + 3 * A) c fs → CarriesFront w t (1 + 3 * A) t old (es ++ fs)
+    left_front front h r = let one = entered h r in subst (IsFront w) (append_assoc h es fs) (front w refl can (h ++ es) mid.sent one.0 one.1)
+
+  pub entries_front : (t : ℕ) (old : Progress) (es : History) → EntriesFront w t old es → CarriesFront w t (1 + 3 * A) t old es
+  entries_front t old es front h r = front h r.legal r.lanes r.sends
+
+-- ---- one part after another
+
+module _ (w : Scenario) (t k due t' k' due' : ℕ) (old mid : Progress) (es fs : History) (first : Carries w t k due t' k' due' old mid es) where
+  pub carries_on : (t'' k'' due'' : ℕ) (new : Progress) → Carries w t' k' due' t'' k'' due'' mid new fs → Carries w t k due t'' k'' due'' old new (es ++ fs)
+  carries_on t'' k'' due'' new second h r = subst (λ g. Reaches w t'' k'' due'' g new) (append_assoc h es fs) (second (h ++ es) (first h r))
+
+  pub carries_front : CarriesFront w t' k' due' mid fs → CarriesFront w t k due old (es ++ fs)
+  carries_front front h r = subst (IsFront w) (append_assoc h es fs) (front (h ++ es) (first h r))
+
+-- ---- the end
+
+module _ (w : Scenario) (t : ℕ) (old : Progress)
+    (no_alias : (n : ℕ) (h : History) → LegalUpTo w n h → (a : ℕ) → All (λ x. ¬ Alias w h a x.ord) (Arrivals h a))
+    (no_counts : (n : ℕ) (h : History) → LegalUpTo w n h → CountLines w h (length w.net.arcs) []) where
+  -- a front of a tick
+  pub front_of_tick : (es : History) → TickFront w t old es → AdvanceFront w t old es
+  front_of_tick es front h r = let f = front h r in (f.1, inr (f.0, (f.2, no_alias f.0 ((h ++ es) ++ f.1) f.2)))
+
+  module _ (new : Progress) (es : History) (tick : TickPart w t old new es) (last : t ≡ w.script.until.0) where
+    pub closes : AdvancePart w t old new true (es ++ closing_event w new ∷ [])
+    closes h r =
+        let done = tick h r in
+        let legal : LegalUpTo w (last_moment w) (h ++ es) = subst (λ n. LegalUpTo w n (h ++ es)) (ap (λ x. (x + 1) * moments (length w.net.arcs)) last) (subst (λ n. LegalUpTo w n (h ++ es)) (plus_none ((t + 1) * moments (length w.net.arcs))) done.legal) in
+        (h ++ es, [], (legal, no_alias (last_moment w) (h ++ es) legal), no_counts (last_moment w) (h ++ es) legal, all (PlainEvent.end (closing w (h ++ es))) (same done))
+      where
+        plus_none : (x : ℕ) → x + 0 ≡ x
+        plus_none x = omega arith
+
+        all : (e : PlainEvent) → closing_event w new ≡ e → h ++ (es ++ closing_event w new ∷ []) ≡ ((h ++ es) ++ []) ++ e ∷ []
+        all e is = sym (append_assoc h es (closing_event w new ∷ [])) ∙ (ap (λ x. (h ++ es) ++ x ∷ []) is ∙ ap (λ g. g ++ e ∷ []) (sym (append-nil (h ++ es))))
+
+        same : Reaches w (t + 1) 0 (t + 1) (h ++ es) new → closing_event w new ≡ PlainEvent.end (closing w (h ++ es))
+        same done = λ i. PlainEvent.end (record {
+          until = w.script.until.0;
+          sent = count_by (λ s. nat_le s.send.tick.0 w.script.until.0) w.script.sends;
+          delivered = done.deliveries i;
+          dropped = done.drops i;
+        })
+
+    pub closes_front : AdvanceFront w t old (es ++ closing_event w new ∷ [])
+    closes_front h r = ([], inl (subst (Legal w) (sym (append-nil (h ++ (es ++ closing_event w new ∷ [])))) (closes h r)))
