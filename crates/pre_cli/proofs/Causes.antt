@@ -11,32 +11,41 @@ use Rattle.pre_script.specs.declared.scripts.Script.{Script}
 use Rattle.pre_script.specs.Reading.{script_of}
 use Rattle.pre_cli.specs.declared.statuses.Status.{Status}
 use Rattle.pre_cli.specs.declared.statuses.Status.TheVariants as status
-use Rattle.pre_cli.specs.Scripts.{IsRead, fault_in}
-use Rattle.pre_cli.specs.Written.{TakesText, TakesTextFront, TakesSome, TakesPairTrace, TakesPairTextFront}
+use Rattle.pre_trace.specs.Scenario.{Scenario}
+use Rattle.pre_cli.specs.Scripts.{IsRead, Says, fault_in}
 use Rattle.pre_cli.specs.Runs.{RunEnds, RunCause}
-use Rattle.pre_cli.specs.Parts.{IsReadCause, IsScriptFault, OctetsCause}
-use Rattle.pre_cli.specs.Answers.{Leaves}
-
-pub nothing_taken : (a : Option Taken) → WhereTold a a TakesSome
-nothing_taken None = tt
-nothing_taken (Some x) = inl refl
+use Rattle.pre_cli.specs.Parts.{IsReadCause, IsScriptFault, IsScriptFile, OctetsCause, OctetsLeaves}
+use Rattle.pre_cli.specs.Answers.{Outside, SaysIn, Leaves}
 
 -- a script that wasn't read leaves the sink alone
-pub fault_leaves : (s : Status) (due : Result Script (ℕ × ℕ)) (a : Option Taken) → IsScriptFault s due → Leaves s a a
-fault_leaves (status.Form kind line rule) due a is = refl
-fault_leaves status.Memory due a is = nothing_taken a
-fault_leaves status.ReadFault due a is = absurd is
-fault_leaves status.Done due a is = absurd is
-fault_leaves status.Words due a is = absurd is
-fault_leaves status.WriteFault due a is = absurd is
+pub fault_leaves : (s : Status) (octets : List ℕ) (due : Result Script (ℕ × ℕ)) (a : Option Taken) → IsScriptFault s due → OctetsLeaves s octets a a
+fault_leaves (status.Form kind line rule) octets due a is = refl
+fault_leaves status.Memory octets due a is = inl refl
+fault_leaves status.ReadFault octets due a is = absurd is
+fault_leaves status.Done octets due a is = absurd is
+fault_leaves status.Words octets due a is = absurd is
+fault_leaves status.WriteFault octets due a is = absurd is
 
-pub read_leaves : (s : Status) (name : List ℕ) (before now : ℕ) (old new : Option Told) (a : Option Taken) → IsReadCause s name before now old new → Leaves s a a
-read_leaves (status.Form kind line rule) name before now old new a is = refl
-read_leaves status.Memory name before now old new a is = nothing_taken a
-read_leaves status.ReadFault name before now old new a is = refl
-read_leaves status.Done name before now old new a is = absurd is
-read_leaves status.Words name before now old new a is = absurd is
-read_leaves status.WriteFault name before now old new a is = absurd is
+pub read_leaves : (s : Status) (name : List ℕ) (o : Outside) → o.taken_after ≡ o.taken_before → IsReadCause s name o.shelf_before o.shelf_after o.told_before o.told_after → Leaves s (Some name) o
+read_leaves (status.Form kind line rule) name o same is = same
+read_leaves status.Memory name o same is = inl same
+read_leaves status.ReadFault name o same is = same
+read_leaves status.Done name o same is = absurd is
+read_leaves status.Words name o same is = absurd is
+read_leaves status.WriteFault name o same is = absurd is
+
+-- what the octets of the script's file left
+says_in : (name octets : List ℕ) (w : Scenario) (a b : Option Told) → WhereTold a b (IsScriptFile name octets) → Says octets w → WhereTold a b (SaysIn name w)
+says_in name octets w a b file says = WhereTold-map a b (IsScriptFile name octets) (SaysIn name w) (λ x y p. (octets, p.0, says)) file
+
+pub octets_leave : (s : Status) (name octets : List ℕ) (o : Outside) → WhereTold o.told_before o.told_after (IsScriptFile name octets) → OctetsLeaves s octets o.taken_before o.taken_after → Leaves s (Some name) o
+octets_leave status.Done name octets o file (w, says, took) = (w, says_in name octets w o.told_before o.told_after file says, took)
+octets_leave status.WriteFault name octets o file (w, says, took) = (w, says_in name octets w o.told_before o.told_after file says, took)
+octets_leave status.Memory name octets o file (inl same) = inl same
+octets_leave status.Memory name octets o file (inr (w, says, took)) = inr (w, says_in name octets w o.told_before o.told_after file says, took)
+octets_leave status.Words name octets o file took = absurd took
+octets_leave status.ReadFault name octets o file took = absurd took
+octets_leave (status.Form kind line rule) name octets o file took = took
 
 -- the fault of a script, as the cause of the answer
 pub fault_cause : (s : Status) (net : Network) (rows : Streams) (octets : List ℕ) (before now : ℕ) → network.IsPair net → streams.IsPair rows → IsScriptFault s (script_of net rows octets) → OctetsCause s octets before now
@@ -67,10 +76,10 @@ run_later status.Words before now cause = absurd cause
 run_later status.ReadFault before now cause = absurd cause
 run_later (status.Form kind line rule) before now cause = absurd cause
 
-pub run_leaves : (s : Status) (net : Network) (a b : Option Taken) → network.IsPair net → RunEnds net s a b → Leaves s a b
-run_leaves status.Done net a b is ends = WhereTold-map a b (λ x y. TakesText net x y × (y.flushed ≡ true)) TakesPairTrace (λ x y p. ((net, is, p.0), p.1)) ends
-run_leaves status.WriteFault net a b is ends = WhereTold-map a b (TakesTextFront net) TakesPairTextFront (λ x y p. (net, is, p)) ends
-run_leaves status.Memory net a b is ends = WhereTold-map a b (TakesText net) TakesSome (λ x y p. inr (net, is, p)) ends
-run_leaves status.Words net a b is ends = absurd ends
-run_leaves status.ReadFault net a b is ends = absurd ends
-run_leaves (status.Form kind line rule) net a b is ends = absurd ends
+pub run_leaves : (s : Status) (octets : List ℕ) (w : Scenario) (a b : Option Taken) → Says octets w → RunEnds w s a b → OctetsLeaves s octets a b
+run_leaves status.Done octets w a b says ends = (w, says, ends)
+run_leaves status.WriteFault octets w a b says ends = (w, says, ends)
+run_leaves status.Memory octets w a b says ends = inr (w, says, ends)
+run_leaves status.Words octets w a b says ends = absurd ends
+run_leaves status.ReadFault octets w a b says ends = absurd ends
+run_leaves (status.Form kind line rule) octets w a b says ends = absurd ends

@@ -12,11 +12,11 @@ use Rattle.pre_cli.specs.Scripts.{IsDue, IsRead, fault_in, max_file}
 use Rattle.pre_cli.specs.Answers.{Cause, HasScript, Outside}
 use Rattle.pre_cli.specs.Due.{GivesUp, HasFault, IsDueFor, TellsFiles, TellsScript}
 
-some_same : {A : Type 0} (x y : A) → Some x ≡ Some y → x ≡ y
+pub some_same : {A : Type 0} (x y : A) → Some x ≡ Some y → x ≡ y
 some_same x y e = ap (λ o. unwrap_or o x) e
 
 -- what is said of told files, at the files that are told
-told_as : (o : Outside) (told : Told) (P : Told → Told → Type 0) → TellsFiles o told → WhereTold o.told_before o.told_after P → (after : Told) × P told after
+pub told_as : (o : Outside) (told : Told) (P : Told → Told → Type 0) → TellsFiles o told → WhereTold o.told_before o.told_after P → (after : Told) × P told after
 told_as o told P (before, (after, later)) where_told =
     (after, subst (λ b. WhereTold (Some told) b P) later (subst (λ a. WhereTold a o.told_after P) before where_told))
 

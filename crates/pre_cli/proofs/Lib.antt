@@ -3,3 +3,7 @@ pub mod Runs
 pub mod Steps
 pub mod Causes
 pub mod DueAnswers
+pub mod OneTrace
+pub mod PacketLines
+pub mod ListLemmas
+pub mod DueListing

@@ -1,62 +1,83 @@
 -- What a run told, as what its sink took.
-use Rattle.std.proofs.Common.{◌≡◌, ℕ, List, [], ◌∷◌, ◌++◌, Option, None, Some, refl, sym, ◌∙◌, ap, append_assoc}
+use Rattle.std.proofs.Common.{◌≡◌, ℕ, List, [], ◌∷◌, ◌++◌, Option, None, Some, refl, sym, ◌∙◌, ap, inr, subst, append_assoc, arith}
 use Rattle.std.proofs.lemmas.List.{append-nil}
 use Rattle.pre_base.specs.Told.{WhereTold, StillTells}
-use Rattle.pre_base.specs.Sinks.{Taken, TakesBut}
+use Rattle.pre_base.specs.Sinks.{Taken}
 use Rattle.pre_topo.specs.declared.network.Network.{Network}
+use Rattle.pre_trace.specs.Scenario.{Scenario}
 use Rattle.pre_trace.specs.History.{PlainEvent, History}
-use Rattle.pre_trace.specs.Names.{IsOf, AreOf}
+use Rattle.pre_trace.specs.Written.{IsWritten, AreWritten, IsWritten-of, AreWritten-of}
 use Rattle.pre_trace.specs.Text.{line, text}
 use Rattle.pre_trace.specs.Watching.{HoldsText, HoldsTorn}
+use Rattle.pre_trace.specs.Deliveries.{DeliversOnce}
+use Rattle.pre_trace.specs.Legal.{Legal}
 use Rattle.pre_sim.specs.declared.runs.Step.{Step}
 use Rattle.pre_sim.specs.declared.runs.Step.TheVariants.{More, Ended, Alias, Stopped, Memory}
-use Rattle.pre_sim.specs.Telling.{TellsSome, TellsTorn}
+use Rattle.pre_sim.specs.Parts.{IsFrontOfLegal}
+use Rattle.pre_sim.specs.Telling.{TellsAll}
+use Rattle.pre_sim.specs.Views.{SimView, HasTold}
 use Rattle.pre_sim.specs.Steps.{StepTells}
 use Rattle.pre_cli.specs.Written.{TakesText, TakesTextFront}
 use Rattle.pre_cli.specs.Runs.{RunLeaves}
 
-text-push : (net : Network) (h : History) (e : PlainEvent) → text net (h ++ e ∷ []) ≡ text net h ++ line net e
-text-push net [] e = append-nil (line net e)
-text-push net (f ∷ h) e = ap (λ (l : List ℕ). line net f ++ l) (text-push net h e) ∙ sym (append_assoc (line net f) (text net h) (line net e))
+text-append : (net : Network) (g h : History) → text net (g ++ h) ≡ text net g ++ text net h
+text-append net [] h = refl
+text-append net (e ∷ g) h = ap (λ (l : List ℕ). line net e ++ l) (text-append net g h) ∙ sym (append_assoc (line net e) (text net g) (text net h))
 
-AreOf-push : (net : Network) (h : History) (e : PlainEvent) → AreOf net h → IsOf net e → AreOf net (h ++ e ∷ [])
-AreOf-push net [] e are of = (of, tt)
-AreOf-push net (f ∷ h) e are of = (are.0, AreOf-push net h e are.1 of)
+-- what was told is what the sink took
+taken : (net : Network) (x y : Taken) (es : History) → TellsAll net (HoldsText net (Some x)) (HoldsText net (Some y)) es → y.octets ≡ x.octets ++ text net es
+taken net x y es told = told.1 x.octets [] (λ _. sym (append-nil x.octets)) (AreWritten-of net es told.0)
 
-some_text : (net : Network) (a b : Option Taken) → StillTells a b → TellsSome net (HoldsText net a) (HoldsText net b) → WhereTold a b (TakesText net)
-some_text net None None still told = tt
-some_text net None (Some y) still told = absurd still
-some_text net (Some x) None still told = absurd still
-some_text net (Some x) (Some y) still told = (told.0, told.1.0, told.1.1 x.octets [] (λ _. sym (append-nil x.octets)) told.1.0)
+module _ (w : Scenario) where
+  whole_text : (a b : Option Taken) → StillTells a b → (es : History) → TellsAll w.net (HoldsText w.net a) (HoldsText w.net b) es → Legal w es → DeliversOnce w es → WhereTold a b (TakesText w)
+  whole_text None None still es told legal once = tt
+  whole_text None (Some y) still es told legal once = absurd still
+  whole_text (Some x) None still es told legal once = absurd still
+  whole_text (Some x) (Some y) still es told legal once = (es, legal, once, told.0, taken w.net x y es told)
 
-torn_text : (net : Network) (a b : Option Taken) → StillTells a b → TellsTorn net (HoldsText net a) (HoldsTorn net b) → WhereTold a b (TakesTextFront net)
-torn_text net None None still told = tt
-torn_text net None (Some y) still told = absurd still
-torn_text net (Some x) None still told = absurd still
-torn_text net (Some x) (Some y) still told =
-    let h = told.0 in
-    let e = told.1 in
-    let torn = told.4 x.octets [] (λ _. sym (append-nil x.octets)) told.2 told.3 in
-    let begun = torn.0 in
-    let rest = torn.1 in (
-      h ++ e ∷ [],
-      rest,
-      AreOf-push net h e told.2 told.3,
-      (
-        text net h ++ begun,
-        text-push net h e ∙ ap (λ (l : List ℕ). text net h ++ l) torn.2 ∙ sym (append_assoc (text net h) begun rest),
-        torn.3 ∙ append_assoc x.octets (text net h) begun,
-      ),
-    )
+  front_text : (a b : Option Taken) → StillTells a b → (es : History) → TellsAll w.net (HoldsText w.net a) (HoldsText w.net b) es → IsFrontOfLegal w es → WhereTold a b (TakesTextFront w)
+  front_text None None still es told front = tt
+  front_text None (Some y) still es told front = absurd still
+  front_text (Some x) None still es told front = absurd still
+  front_text (Some x) (Some y) still es told (more, so_far) = (es ++ more, text w.net more, so_far, (text w.net es, text-append w.net es more, taken w.net x y es told))
 
-pub run_leaves : (net : Network) (step : Step) (a b : Option Taken) → StillTells a b → StepTells net step (HoldsText net a) (HoldsText net b) (HoldsTorn net b) → RunLeaves net step a b
-run_leaves net More a b still told = some_text net a b still told
-run_leaves net Ended a b still told = some_text net a b still told
-run_leaves net (Alias arc ordinal) a b still told = told
-run_leaves net Stopped a b still told = torn_text net a b still told
-run_leaves net Memory a b still told = some_text net a b still told
+  torn_text : (a b : Option Taken) → StillTells a b → (es : History) (e : PlainEvent) → AreWritten w.net es → IsWritten w.net e
+      → ((base : List ℕ) (h : History) → HoldsText w.net a base h → HoldsTorn w.net b base (h ++ es) e) → IsFrontOfLegal w (es ++ e ∷ []) → WhereTold a b (TakesTextFront w)
+  torn_text None None still es e all one torn front = tt
+  torn_text None (Some y) still es e all one torn front = absurd still
+  torn_text (Some x) None still es e all one torn front = absurd still
+  torn_text (Some x) (Some y) still es e all one torn (more, so_far) =
+      let t = torn x.octets [] (λ _. sym (append-nil x.octets)) (AreWritten-of w.net es all) (IsWritten-of w.net e one) in
+      let begun = t.0 in
+      let rest = t.1 in (
+        (es ++ e ∷ []) ++ more,
+        rest ++ text w.net more,
+        so_far,
+        (
+          text w.net es ++ begun,
+          text-append w.net (es ++ e ∷ []) more
+              ∙ (ap (λ (l : List ℕ). l ++ text w.net more) (text-append w.net es (e ∷ []) ∙ ap (λ (l : List ℕ). text w.net es ++ l) (append-nil (line w.net e) ∙ t.2))
+              ∙ whole (text w.net es) begun rest (text w.net more)),
+          t.3 ∙ append_assoc x.octets (text w.net es) begun,
+        ),
+      )
+    where
+      whole : (p q r s : List ℕ) → (p ++ (q ++ r)) ++ s ≡ (p ++ q) ++ (r ++ s)
+      whole p q r s = ap (λ (l : List ℕ). l ++ s) (sym (append_assoc p q r)) ∙ append_assoc (p ++ q) r s
+
+  module _ (s u : SimView) (same : s.run ≡ w) (begun : HasTold s []) (once : (h : History) → Legal w h → DeliversOnce w h) where
+    pub run_leaves : (step : Step) (a b : Option Taken) → StillTells a b → (step ≡ More → ⊥) → StepTells s step u (HoldsText w.net a) (HoldsText w.net b) (HoldsTorn w.net b) → RunLeaves w step a b
+    run_leaves More a b still last told = absurd (last refl)
+    run_leaves Ended a b still last (es, told, ends) =
+        let legal : Legal w es = subst (λ (v : Scenario). Legal v es) same (ends [] begun) in
+        whole_text a b still es (subst (λ (v : Scenario). TellsAll v.net (HoldsText w.net a) (HoldsText w.net b) es) same told) legal (once es legal)
+    run_leaves (Alias arc ordinal) a b still last told = told
+    run_leaves Stopped a b still last (es, e, all, one, torn, front) =
+        torn_text a b still es e (subst (λ (v : Scenario). AreWritten v.net es) same all) (subst (λ (v : Scenario). IsWritten v.net e) same one) torn (subst (λ (v : Scenario). IsFrontOfLegal v (es ++ e ∷ [])) same (front [] begun))
+    run_leaves Memory a b still last (es, told, front) =
+        front_text a b still es (subst (λ (v : Scenario). TellsAll v.net (HoldsText w.net a) (HoldsText w.net b) es) same told) (subst (λ (v : Scenario). IsFrontOfLegal v es) same (front [] begun))
 
 -- nothing was told yet
-pub nothing_left : (net : Network) (a : Option Taken) → RunLeaves net Memory a a
-nothing_left net None = tt
-nothing_left net (Some x) = ([], tt, sym (append-nil x.octets))
+pub nothing_left : (w : Scenario) (a : Option Taken) → WhereTold a a (TakesTextFront w)
+nothing_left w None = tt
+nothing_left w (Some x) = ([], [], inr (0, (refl, λ a k d lt. absurd (omega (arith, lt)))), ([], refl, sym (append-nil x.octets)))

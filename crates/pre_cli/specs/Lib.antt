@@ -6,3 +6,8 @@ pub mod Runs
 pub mod Parts
 pub mod Answers
 pub mod Due
+pub mod PacketFiles
+pub mod Listing
+pub mod Listed
+pub mod Commands
+pub mod DueListings

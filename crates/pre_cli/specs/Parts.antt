@@ -9,7 +9,9 @@ use Rattle.pre_script.specs.declared.scripts.Script.{Script}
 use Rattle.pre_cli.specs.declared.statuses.FileWord.TheVariants as file
 use Rattle.pre_cli.specs.declared.statuses.Status.{Status}
 use Rattle.pre_cli.specs.declared.statuses.Status.TheVariants as status
-use Rattle.pre_cli.specs.Scripts.{max_file, IsRead}
+use Rattle.pre_trace.specs.Scenario.{Scenario}
+use Rattle.pre_cli.specs.Scripts.{max_file, IsRead, Says}
+use Rattle.pre_cli.specs.Written.{TakesTrace, TakesTextFront}
 
 -- nothing more is taken, and all is flushed where that was done
 abbrev pub FlushEnds : Status → Option Taken → Option Taken → Type 0
@@ -54,3 +56,12 @@ OctetsCause (status.Form kind line rule) octets before now = (kind ≡ file.Scri
 OctetsCause status.Memory octets before now = Unit {0}
 OctetsCause status.Words octets before now = ⊥
 OctetsCause status.ReadFault octets before now = ⊥
+
+-- what the octets of a script left in the sink
+abbrev pub OctetsLeaves : Status → List ℕ → Option Taken → Option Taken → Type 0
+OctetsLeaves status.Done octets old new = (w : Scenario) × Says octets w × WhereTold old new (TakesTrace w)
+OctetsLeaves status.WriteFault octets old new = (w : Scenario) × Says octets w × WhereTold old new (TakesTextFront w)
+OctetsLeaves status.Memory octets old new = (new ≡ old) ⊎ ((w : Scenario) × Says octets w × WhereTold old new (TakesTextFront w))
+OctetsLeaves status.Words octets old new = ⊥
+OctetsLeaves status.ReadFault octets old new = ⊥
+OctetsLeaves (status.Form kind line rule) octets old new = new ≡ old

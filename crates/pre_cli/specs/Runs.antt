@@ -3,28 +3,28 @@ use Rattle.std.specs.Prelude.{◌≡◌, ℕ, ◌≤◌, Option, true}
 use Rattle.pre_base.specs.Faults.{Rose}
 use Rattle.pre_base.specs.Told.{WhereTold}
 use Rattle.pre_base.specs.Sinks.{Taken}
-use Rattle.pre_topo.specs.declared.network.Network.{Network}
+use Rattle.pre_trace.specs.Scenario.{Scenario}
 use Rattle.pre_sim.specs.declared.runs.Step.{Step}
 use Rattle.pre_sim.specs.declared.runs.Step.TheVariants.{More, Ended, Alias, Stopped, Memory}
 use Rattle.pre_cli.specs.declared.statuses.Status.{Status}
 use Rattle.pre_cli.specs.declared.statuses.Status.TheVariants as status
-use Rattle.pre_cli.specs.Written.{TakesText, TakesTextFront}
+use Rattle.pre_cli.specs.Written.{TakesText, TakesTrace, TakesTextFront}
 
-abbrev pub RunLeaves : Network → Step → Option Taken → Option Taken → Type 0
-RunLeaves net More old new = WhereTold old new (TakesText net)
-RunLeaves net Ended old new = WhereTold old new (TakesText net)
-RunLeaves net (Alias arc ordinal) old new = ⊥
-RunLeaves net Stopped old new = WhereTold old new (TakesTextFront net)
-RunLeaves net Memory old new = WhereTold old new (TakesText net)
+abbrev pub RunLeaves : Scenario → Step → Option Taken → Option Taken → Type 0
+RunLeaves w More old new = ⊥
+RunLeaves w Ended old new = WhereTold old new (TakesText w)
+RunLeaves w (Alias arc ordinal) old new = ⊥
+RunLeaves w Stopped old new = WhereTold old new (TakesTextFront w)
+RunLeaves w Memory old new = WhereTold old new (TakesTextFront w)
 
 -- the same by the status that it gives, flushed where all was done
-abbrev pub RunEnds : Network → Status → Option Taken → Option Taken → Type 0
-RunEnds net status.Done old new = WhereTold old new (λ a b. TakesText net a b × (b.flushed ≡ true))
-RunEnds net status.WriteFault old new = WhereTold old new (TakesTextFront net)
-RunEnds net status.Memory old new = WhereTold old new (TakesText net)
-RunEnds net status.Words old new = ⊥
-RunEnds net status.ReadFault old new = ⊥
-RunEnds net (status.Form kind line rule) old new = ⊥
+abbrev pub RunEnds : Scenario → Status → Option Taken → Option Taken → Type 0
+RunEnds w status.Done old new = WhereTold old new (TakesTrace w)
+RunEnds w status.WriteFault old new = WhereTold old new (TakesTextFront w)
+RunEnds w status.Memory old new = WhereTold old new (TakesTextFront w)
+RunEnds w status.Words old new = ⊥
+RunEnds w status.ReadFault old new = ⊥
+RunEnds w (status.Form kind line rule) old new = ⊥
 
 -- the sink's count of faults before and after, which rose where writing failed
 abbrev pub RunCause : Status → ℕ → ℕ → Type 0

@@ -6,6 +6,7 @@ use Rattle.pre_streams.specs.declared.rows.Streams.{Streams}
 use Rattle.pre_streams.specs.PairStreams as streams
 use Rattle.pre_script.specs.declared.scripts.Script.{Script}
 use Rattle.pre_script.specs.Reading.{script_of}
+use Rattle.pre_trace.specs.Scenario.{Scenario}
 
 -- the greatest length of a file, in octets
 abbrev pub max_file : ℕ
@@ -29,3 +30,9 @@ abbrev pub IsDue : List ℕ → Option (ℕ × ℕ) → Type 0
 IsDue octets fault =
     ((max_file < length octets) × (fault ≡ Some (0, 0)))
     ⊎ (length octets ≤ max_file) × IsRead octets fault
+
+-- what the octets of a script say to run: the script that they spell, over the built-in network and streams
+pub record Says (octets : List ℕ) (w : Scenario) : Type 0 where
+  pub net : network.IsPair w.net
+  pub rows : streams.IsPair w.streams
+  pub script : script_of w.net w.streams octets ≡ Ok w.script

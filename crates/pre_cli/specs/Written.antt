@@ -1,32 +1,26 @@
 -- What a command left in its sink.
-use Rattle.std.specs.Prelude.{◌≡◌, ◌⊎◌, ℕ, List, [], ◌++◌, true}
-use Rattle.pre_base.specs.Told.{WhereTold}
+use Rattle.std.specs.Prelude.{◌≡◌, ◌⊎◌, ℕ, List, ◌++◌, true}
 use Rattle.pre_base.specs.Sinks.{Taken, TakesBut}
-use Rattle.pre_topo.specs.declared.network.Network.{Network}
-use Rattle.pre_topo.specs.PairNetwork.{IsPair}
+use Rattle.pre_trace.specs.Scenario.{Scenario}
 use Rattle.pre_trace.specs.History.{History}
-use Rattle.pre_trace.specs.Names.{AreOf}
 use Rattle.pre_trace.specs.Text.{text}
+use Rattle.pre_trace.specs.Deliveries.{DeliversOnce}
+use Rattle.pre_trace.specs.Legal.{Legal, LegalBefore}
+use Rattle.pre_trace.specs.Written.{AreWritten}
 
--- the text of a history of the network
-abbrev pub TakesText : Network → Taken → Taken → Type 0
-TakesText net old new = (h : History) × AreOf net h × (new.octets ≡ old.octets ++ text net h)
-
--- a front of such a text
-abbrev pub TakesTextFront : Network → Taken → Taken → Type 0
-TakesTextFront net old new = (h : History) × (rest : List ℕ) × AreOf net h × TakesBut rest (text net h) old new
-
--- the same for the built-in network
-abbrev pub TakesPairText : Taken → Taken → Type 0
-TakesPairText old new = (net : Network) × IsPair net × TakesText net old new
-
--- nothing, or that text as far as the run came
-abbrev pub TakesSome : Taken → Taken → Type 0
-TakesSome old new = (new.octets ≡ old.octets) ⊎ TakesPairText old new
-
-abbrev pub TakesPairTextFront : Taken → Taken → Type 0
-TakesPairTextFront old new = (net : Network) × IsPair net × TakesTextFront net old new
+-- The text of a legal history. Each of its deliveries has the octets of a frame that was sent, and no frame is delivered
+-- twice. Its events can be told over the network, so the text is no other such history's.
+abbrev pub TakesText : Scenario → Taken → Taken → Type 0
+TakesText w old new = (h : History) × Legal w h × DeliversOnce w h × AreWritten w.net h × (new.octets ≡ old.octets ++ text w.net h)
 
 -- that text, all of it flushed
-abbrev pub TakesPairTrace : Taken → Taken → Type 0
-TakesPairTrace old new = TakesPairText old new × (new.flushed ≡ true)
+abbrev pub TakesTrace : Scenario → Taken → Taken → Type 0
+TakesTrace w old new = TakesText w old new × (new.flushed ≡ true)
+
+-- a history that is legal, or legal before some moment
+abbrev pub IsLegalSoFar : Scenario → History → Type 0
+IsLegalSoFar w h = Legal w h ⊎ ((n : ℕ) × LegalBefore w h n)
+
+-- a front of the text of such a history
+abbrev pub TakesTextFront : Scenario → Taken → Taken → Type 0
+TakesTextFront w old new = (h : History) × (rest : List ℕ) × IsLegalSoFar w h × TakesBut rest (text w.net h) old new

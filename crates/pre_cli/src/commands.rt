@@ -1,6 +1,7 @@
 ghost use Rattle.std.specs.Prelude.{◌≡◌, map, string_bytes};
 ghost use Rattle.std.specs.Option.{option_map};
 ghost use Rattle.pre_cli.specs.Words.{script_named};
+ghost use Rattle.pre_cli.specs.Commands.{packets_named};
 
 /// The name of the script, where the words are `replay pair` and a name.
 pub(crate) fn script_named(words: &[String]) -> Option<&str>
@@ -9,6 +10,16 @@ pub(crate) fn script_named(words: &[String]) -> Option<&str>
     match words {
         [command, built_in, name] if command.as_str() == "replay" && built_in.as_str() == "pair" =>
             { Some(name.as_str()) }
+        _ => None,
+    }
+}
+
+/// The name of the file, where the words are `mpackets` and a name.
+pub(crate) fn packets_named(words: &[String]) -> Option<&str>
+    ensures { option_map (λ name. name.now) result ≡ packets_named (map string_bytes words.now) }
+{
+    match words {
+        [command, name] if command.as_str() == "mpackets" => Some(name.as_str()),
         _ => None,
     }
 }

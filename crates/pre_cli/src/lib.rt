@@ -3,10 +3,14 @@
 
 mod commands;
 mod laws;
+mod listing_laws;
+mod listings;
+mod packet_files;
 mod preempts;
 mod replays;
 mod statuses;
 
-pub use laws::due_answers;
+pub use laws::{due_answers, one_trace};
+pub use listing_laws::due_listings;
 pub use preempts::preempt;
 pub use statuses::{FileWord, Status, put_status};

@@ -1,29 +1,36 @@
 ghost use Rattle.std.specs.Prelude.{◌≡◌, ◌≤◌, map, string_bytes};
-ghost use Rattle.pre_cli.specs.Words.{script_named};
-ghost use Rattle.pre_cli.specs.Answers.{Cause, Leaves};
+ghost use Rattle.pre_cli.specs.Commands.{CauseOf, LeavesOf};
 
 use crate::Status;
-use crate::commands::script_named;
+use crate::commands::{packets_named, script_named};
+use crate::listings::list_file;
 use crate::replays::replay_pair;
 use pre_base::{Shelf, Sink};
 use std::alloc::Global;
 
 /// Does the command that the words say, over the shelf's files, and writes what it gives to the sink. So far
-/// `replay pair SCRIPT` is known: it runs the script over the built-in network and streams, and writes the trace.
+/// `replay pair SCRIPT` is known, which runs the script over the built-in network and streams, and writes the trace; and
+/// `mpackets FILE`, which writes a line for each mPacket of the file, with what it gives to one receiver.
 ///
-/// Each answer has its cause, and no two causes hold together; only want of memory is free. What the sink took is the
-/// whole trace, flushed, where the answer is Done, a front of one where writing failed or memory ran out, and else nothing.
+/// Each answer has its cause, and no two causes hold together; only want of memory is free. Where the answer is Done, the
+/// sink took the whole of it and nothing else, flushed: of `replay` the text of a legal history of what the script's file
+/// says to run, in which each delivery is a frame that was sent, octet for octet, and none is delivered twice; of
+/// `mpackets` the listing. Where writing failed, or memory ran out in a run, it took a front of such a text, and else
+/// nothing.
 pub fn preempt<H: Shelf, S: Sink>(
     alloc: Global,
     words: &[String],
     shelf: &mut H,
     sink: &mut S,
 ) -> Status
-    ensures cause { Cause result (script_named (map string_bytes words.now)) (record { shelf_before = H.faults shelf.old; shelf_after = H.faults shelf.new; sink_before = S.faults sink.old; sink_after = S.faults sink.new; told_before = H.tells shelf.old; told_after = H.tells shelf.new }) }
-    ensures leaves { Leaves result (S.tells sink.old) (S.tells sink.new) }
+    ensures cause { CauseOf result (map string_bytes words.now) (record { shelf_before = H.faults shelf.old; shelf_after = H.faults shelf.new; sink_before = S.faults sink.old; sink_after = S.faults sink.new; told_before = H.tells shelf.old; told_after = H.tells shelf.new; taken_before = S.tells sink.old; taken_after = S.tells sink.new }) }
+    ensures leaves { LeavesOf result (map string_bytes words.now) (record { shelf_before = H.faults shelf.old; shelf_after = H.faults shelf.new; sink_before = S.faults sink.old; sink_after = S.faults sink.new; told_before = H.tells shelf.old; told_after = H.tells shelf.new; taken_before = S.tells sink.old; taken_after = S.tells sink.new }) }
     ensures shelf_later { H.faults shelf.old ≤ H.faults shelf.new }
     ensures sink_later { S.faults sink.old ≤ S.faults sink.new }
 {
+    if let Some(name) = packets_named(words) {
+        return list_file(alloc, name, shelf, sink);
+    }
     match script_named(words) {
         None => Status::Words,
         Some(name) => replay_pair(alloc, name, shelf, sink),

@@ -9,7 +9,7 @@ ghost use Rattle.pre_streams.specs.PairStreams as streams;
 ghost use Rattle.pre_streams.specs.Fits as rows;
 ghost use Rattle.pre_cli.specs.Runs.{RunLeaves, RunEnds, RunCause};
 ghost use Rattle.pre_cli.specs.Answers.{Cause, Leaves};
-ghost use Rattle.pre_cli.specs.Parts.{OctetsCause, FlushEnds, IsScriptFile, IsReadCause, IsScriptFault};
+ghost use Rattle.pre_cli.specs.Parts.{OctetsCause, OctetsLeaves, FlushEnds, IsScriptFile, IsReadCause, IsScriptFault};
 ghost use Rattle.pre_script.specs.Fits as fits;
 ghost use Rattle.pre_script.specs.Reading as reading;
 ghost use Rattle.std.specs.Prelude.{Ok};
@@ -17,17 +17,17 @@ ghost use Rattle.std.specs.Prelude.{Ok};
 use crate::{FileWord, Status};
 use pre_base::{ReadError, Shelf, Sink, read_whole};
 use pre_script::{Script, ScriptFault, read_script};
-use pre_sim::{Sim, Step, pair_can_run};
+use pre_sim::{Sim, Step, pair_can_run, runs_are_plain};
 use pre_streams::Streams;
 use pre_topo::Network;
-use pre_trace::{TraceWatcher, Watcher};
+use pre_trace::{TraceWatcher, Watcher, deliveries_are_what_was_sent};
 use std::alloc::{AllocError, Global};
 
 /// Does all the steps of a run: the last one's answer.
 fn run_on<W: Watcher>(sim: &mut Sim, watcher: &mut W) -> Step
     requires { sim.old.going ≡ true }
     ensures last { result ≢ Step.More }
-    ensures told { StepTells sim.old.net result (W.took watcher.old) (W.took watcher.new) (W.torn watcher.new) }
+    ensures told { StepTells sim.old result sim.new (W.took watcher.old) (W.took watcher.new) (W.torn watcher.new) }
     ensures cause { StepCause result (W.faults watcher.old) (W.faults watcher.new) }
     ensures same { W.same watcher.old watcher.new }
 {
@@ -50,8 +50,10 @@ pub(crate) fn run<S: Sink>(
     requires { CanRun net.now streams.now script.now }
     ensures last { result ≢ Step.More }
     ensures cause { StepCause result (S.faults sink.old) (S.faults sink.new) }
-    ensures octets { RunLeaves net.now result (S.tells sink.old) (S.tells sink.new) }
+    ensures octets { RunLeaves (record { net = net.now; streams = streams.now; script = script.now }) result (S.tells sink.old) (S.tells sink.new) }
 {
+    runs_are_plain();
+    deliveries_are_what_was_sent();
     let Ok(mut sim) = Sim::make(alloc, net, streams, script) else {
         return Step::Memory;
     };
@@ -79,7 +81,7 @@ fn trace<S: Sink>(
     sink: &mut S,
 ) -> Status
     requires { CanRun net.now streams.now script.now }
-    ensures ends { RunEnds net.now result (S.tells sink.old) (S.tells sink.new) }
+    ensures ends { RunEnds (record { net = net.now; streams = streams.now; script = script.now }) result (S.tells sink.old) (S.tells sink.new) }
     ensures cause { RunCause result (S.faults sink.old) (S.faults sink.new) }
 {
     match run(alloc, net, streams, script, sink) {
@@ -139,7 +141,7 @@ fn script_of(
 /// Runs the script that the octets spell over the built-in network and streams, and writes its trace.
 fn replay_octets<S: Sink>(alloc: Global, octets: &[u8], sink: &mut S) -> Status
     ensures cause { OctetsCause result octets.now (S.faults sink.old) (S.faults sink.new) }
-    ensures leaves { Leaves result (S.tells sink.old) (S.tells sink.new) }
+    ensures leaves { OctetsLeaves result octets.now (S.tells sink.old) (S.tells sink.new) }
     ensures later { S.faults sink.old ≤ S.faults sink.new }
 {
     let Ok((net, streams)) = pairs(alloc) else {
@@ -161,8 +163,8 @@ pub(crate) fn replay_pair<H: Shelf, S: Sink>(
     shelf: &mut H,
     sink: &mut S,
 ) -> Status
-    ensures cause { Cause result (Some name.now) (record { shelf_before = H.faults shelf.old; shelf_after = H.faults shelf.new; sink_before = S.faults sink.old; sink_after = S.faults sink.new; told_before = H.tells shelf.old; told_after = H.tells shelf.new }) }
-    ensures leaves { Leaves result (S.tells sink.old) (S.tells sink.new) }
+    ensures cause { Cause result (Some name.now) (record { shelf_before = H.faults shelf.old; shelf_after = H.faults shelf.new; sink_before = S.faults sink.old; sink_after = S.faults sink.new; told_before = H.tells shelf.old; told_after = H.tells shelf.new; taken_before = S.tells sink.old; taken_after = S.tells sink.new }) }
+    ensures leaves { Leaves result (Some name.now) (record { shelf_before = H.faults shelf.old; shelf_after = H.faults shelf.new; sink_before = S.faults sink.old; sink_after = S.faults sink.new; told_before = H.tells shelf.old; told_after = H.tells shelf.new; taken_before = S.tells sink.old; taken_after = S.tells sink.new }) }
     ensures shelf_later { H.faults shelf.old ≤ H.faults shelf.new }
     ensures sink_later { S.faults sink.old ≤ S.faults sink.new }
 {

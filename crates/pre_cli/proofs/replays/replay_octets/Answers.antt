@@ -1,5 +1,6 @@
 use Rattle.std.proofs.Common.{rules}
-use Rattle.pre_cli.proofs.Causes.{fault_cause, read_well, run_cause, run_leaves}
+use Rattle.pre_cli.proofs.Causes.{fault_cause, fault_leaves, read_well, run_cause, run_leaves}
+use Rattle.pre_trace.specs.Scenario.{Scenario}
 use Rattle.pre_cli.proofs.replays.replay_octets.Goals as goal
 
 pub returns-in-Ok-script_of-clause-cause : goal.returns-in-Ok-script_of-clause-cause
@@ -10,7 +11,12 @@ returns-in-Ok-script_of-clause-cause g c =
 
 pub returns-in-Ok-script_of-clause-leaves : goal.returns-in-Ok-script_of-clause-leaves
 returns-in-Ok-script_of-clause-leaves g c =
-    run_leaves c.trace.result c.in-Ok.net (g.S.Sink.tells c.args.sink.now) (g.S.Sink.tells c.trace.new.sink) (search rules) c.trace.ensures.ends
+    let w : Scenario = record { net = c.in-Ok.net; streams = c.in-Ok.streams; script = c.in-Ok-script_of.script } in
+    run_leaves c.trace.result c.args.octets.now w (g.S.Sink.tells c.args.sink.now) (g.S.Sink.tells c.trace.new.sink)
+    (record { net = search rules; rows = search rules; script = c.in-Ok-script_of.ensures.script.1 }) c.trace.ensures.ends
+
+pub returns-clause-leaves : goal.returns-clause-leaves
+returns-clause-leaves g c = fault_leaves c.in-Err.status c.args.octets.now _ (g.S.Sink.tells c.args.sink.now) c.in-Err.ensures.fault
 
 pub returns-clause-cause : goal.returns-clause-cause
 returns-clause-cause g c =

@@ -1,18 +1,25 @@
-use Rattle.std.proofs.Common.{◌≡◌, rules, subst, ◌∙◌}
+use Rattle.std.proofs.Common.{◌≡◌, rules, subst, ◌∙◌, List, ℕ}
 use Rattle.pre_topo.specs.declared.network.Network.{Network}
+use Rattle.pre_trace.specs.Scenario.{Scenario}
+use Rattle.pre_trace.specs.Legal.{Legal}
 use Rattle.pre_sim.specs.Steps.{StepTells}
 use Rattle.pre_cli.specs.Runs.{RunLeaves}
-use Rattle.pre_cli.proofs.Runs.{run_leaves}
+use Rattle.pre_cli.proofs.Runs.{run_leaves, nothing_left}
 use Rattle.pre_cli.proofs.replays.run.Goals as goal
+
+pub returns-in_default-clause-octets : goal.returns-in_default-clause-octets
+returns-in_default-clause-octets g c = nothing_left (record { net = c.args.net.now; streams = c.args.streams.now; script = c.args.script.now }) (g.S.Sink.tells c.args.sink.now)
 
 pub returns-clause-octets : goal.returns-clause-octets
 returns-clause-octets g c =
-    let net = c.args.net.now in
+    let w : Scenario = record { net = c.args.net.now; streams = c.args.streams.now; script = c.args.script.now } in
     let before = g.S.Sink.tells c.args.sink.now in
-    let same_net : c.over-watcher.result.net.now ≡ net = c.over-watcher.ensures.net in
+    let same_net : c.over-watcher.result.net.now ≡ w.net = c.over-watcher.ensures.net in
     let same_sink : c.over-watcher.result.sink.now ≡ c.args.sink.now = c.over-watcher.ensures.sink in
-    let kept : c.run_on.new.watcher.net.now ≡ net = search rules in
-    let sim_net : c.in-Ok.sim.net ≡ net = search rules in
-    let told = rw (kept, same_net, same_sink, sim_net) at c.run_on.ensures.told in
+    let kept : c.run_on.new.watcher.net.now ≡ w.net = search rules in
+    let told = rw (kept, same_net, same_sink) at c.run_on.ensures.told in
     let still = rw same_sink at c.run_on.ensures.same.2 in
-    subst (λ s. RunLeaves net c.run_on.result before (g.S.Sink.tells s)) (search rules) (run_leaves net c.run_on.result before (g.S.Sink.tells c.run_on.new.watcher.sink.now) still told)
+    let plain = c.runs_are_plain.ensures w c.requires in
+    subst (λ s. RunLeaves w c.run_on.result before (g.S.Sink.tells s)) (search rules)
+    (run_leaves w c.in-Ok.sim c.run_on.new.sim c.in-Ok.ensures.0 c.in-Ok.ensures.3 (c.deliveries_are_what_was_sent.ensures.whole w plain.direct)
+    c.run_on.result before (g.S.Sink.tells c.run_on.new.watcher.sink.now) still c.run_on.ensures.last told)
