@@ -4,6 +4,10 @@
 #[cfg(test)]
 mod calls;
 #[cfg(test)]
+mod listings;
+#[cfg(test)]
+mod networks;
+#[cfg(test)]
 mod outsides;
 #[cfg(test)]
 mod pieces;
@@ -11,5 +15,7 @@ mod pieces;
 mod running;
 #[cfg(test)]
 mod scripts;
+#[cfg(test)]
+mod streams;
 #[cfg(test)]
 mod traces;
