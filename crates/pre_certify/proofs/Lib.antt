@@ -1,4 +1,5 @@
 pub mod Growing
+mod Lines
 pub mod Loading
 pub mod Stepping
 pub mod Peeling

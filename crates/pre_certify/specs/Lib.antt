@@ -7,3 +7,4 @@ pub mod Peelings
 pub mod Paths
 pub mod Written
 pub mod Ranked
+pub mod Text

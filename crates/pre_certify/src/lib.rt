@@ -9,9 +9,11 @@ mod ranks;
 mod rings;
 mod rows;
 mod settle;
+mod text;
 mod unfit;
 
 pub use certifier::certify;
+pub use text::put_certificate;
 pub use unfit::Unfit;
 
 #[cfg(test)]

@@ -1,0 +1,11 @@
+use Rattle.std.proofs.Common.{◌≤◌, drop}
+use Rattle.pre_base.specs.Told.{WhereTold}
+use Rattle.pre_base.specs.Sinks.{TakesBut}
+use Rattle.pre_certify.specs.Text.{port_lines}
+use Rattle.pre_certify.proofs.text.put_ports.Given as goal
+
+abbrev pub invariant-loop-row : goal.invariant-loop-row
+invariant-loop-row g l = record {
+  taken : WhereTold (g.S.Sink.tells l.fn.sink) (g.S.Sink.tells l.sink) (TakesBut (port_lines l.net (drop l.row-index l.rows)) (port_lines l.net l.rows));
+  later : g.S.Sink.faults l.fn.sink ≤ g.S.Sink.faults l.sink;
+}
