@@ -1,5 +1,5 @@
 -- The answers of the parts of a command, as answers of the whole.
-use Rattle.std.proofs.Common.{◌≡◌, ◌⊎◌, inl, inr, ℕ, ◌≤◌, List, Option, None, Some, Result, Ok, Err, true, refl, ap}
+use Rattle.std.proofs.Common.{◌≡◌, inl, inr, ℕ, ◌≤◌, List, Option, None, Some, Result, Ok, refl, ap}
 use Rattle.pre_base.specs.Told.{WhereTold, WhereTold-map}
 use Rattle.pre_base.specs.Shelves.{Told}
 use Rattle.pre_base.specs.Sinks.{Taken}
@@ -22,6 +22,8 @@ pub fault_leaves : (s : Status) (octets : List ℕ) (due : Result Script (ℕ ×
 fault_leaves (status.Form kind line rule) octets due a is = refl
 fault_leaves status.Memory octets due a is = inl refl
 fault_leaves status.ReadFault octets due a is = absurd is
+fault_leaves (status.Rules kind row rule) octets due a is = absurd is
+fault_leaves (status.Unfit cause) octets due a is = absurd is
 fault_leaves status.Done octets due a is = absurd is
 fault_leaves status.Words octets due a is = absurd is
 fault_leaves status.WriteFault octets due a is = absurd is
@@ -32,6 +34,8 @@ read_leaves status.Memory name o same is = inl same
 read_leaves status.ReadFault name o same is = same
 read_leaves status.Done name o same is = absurd is
 read_leaves status.Words name o same is = absurd is
+read_leaves (status.Rules kind row rule) name o same is = absurd is
+read_leaves (status.Unfit unfit) name o same is = absurd is
 read_leaves status.WriteFault name o same is = absurd is
 
 -- what the octets of the script's file left
@@ -45,6 +49,8 @@ octets_leave status.Memory name octets o file (inl same) = inl same
 octets_leave status.Memory name octets o file (inr (w, says, took)) = inr (w, says_in name octets w o.told_before o.told_after file says, took)
 octets_leave status.Words name octets o file took = absurd took
 octets_leave status.ReadFault name octets o file took = absurd took
+octets_leave (status.Rules kind row rule) name octets o file took = absurd took
+octets_leave (status.Unfit cause) name octets o file took = absurd took
 octets_leave (status.Form kind line rule) name octets o file took = took
 
 -- the fault of a script, as the cause of the answer
@@ -52,6 +58,8 @@ pub fault_cause : (s : Status) (net : Network) (rows : Streams) (octets : List �
 fault_cause (status.Form kind line rule) net rows octets before now p q is = (is.0, record { net = net; rows = rows; net_is = p; rows_are = q; due = ap fault_in is.1 })
 fault_cause status.Memory net rows octets before now p q is = tt
 fault_cause status.ReadFault net rows octets before now p q is = absurd is
+fault_cause (status.Rules kind row rule) net rows octets before now p q is = absurd is
+fault_cause (status.Unfit cause) net rows octets before now p q is = absurd is
 fault_cause status.Done net rows octets before now p q is = absurd is
 fault_cause status.Words net rows octets before now p q is = absurd is
 fault_cause status.WriteFault net rows octets before now p q is = absurd is
@@ -66,6 +74,8 @@ run_cause status.WriteFault octets before now read cause = (cause.1, read)
 run_cause status.Memory octets before now read cause = tt
 run_cause status.Words octets before now read cause = absurd cause
 run_cause status.ReadFault octets before now read cause = absurd cause
+run_cause (status.Rules kind row rule) octets before now read cause = absurd cause
+run_cause (status.Unfit unfit) octets before now read cause = absurd cause
 run_cause (status.Form kind line rule) octets before now read cause = absurd cause
 
 pub run_later : (s : Status) (before now : ℕ) → RunCause s before now → before ≤ now
@@ -74,6 +84,8 @@ run_later status.WriteFault before now cause = cause.0
 run_later status.Memory before now cause = cause
 run_later status.Words before now cause = absurd cause
 run_later status.ReadFault before now cause = absurd cause
+run_later (status.Rules kind row rule) before now cause = absurd cause
+run_later (status.Unfit unfit) before now cause = absurd cause
 run_later (status.Form kind line rule) before now cause = absurd cause
 
 pub run_leaves : (s : Status) (octets : List ℕ) (w : Scenario) (a b : Option Taken) → Says octets w → RunEnds w s a b → OctetsLeaves s octets a b
@@ -82,4 +94,6 @@ run_leaves status.WriteFault octets w a b says ends = (w, says, ends)
 run_leaves status.Memory octets w a b says ends = inr (w, says, ends)
 run_leaves status.Words octets w a b says ends = absurd ends
 run_leaves status.ReadFault octets w a b says ends = absurd ends
+run_leaves (status.Rules kind row rule) octets w a b says ends = absurd ends
+run_leaves (status.Unfit cause) octets w a b says ends = absurd ends
 run_leaves (status.Form kind line rule) octets w a b says ends = absurd ends

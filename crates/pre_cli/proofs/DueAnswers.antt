@@ -1,14 +1,11 @@
 -- The cause of an answer leaves no other.
-use Rattle.std.proofs.Common.{◌≡◌, ◌⊎◌, inl, inr, ℕ, ◌<◌, ◌≤◌, List, length, Option, Some, None, refl, sym, ◌∙◌, ap, subst, arith, unwrap_or}
+use Rattle.std.proofs.Common.{◌≡◌, ◌⊎◌, inl, inr, ℕ, List, Option, Some, None, refl, sym, ◌∙◌, ap, subst, arith, unwrap_or}
 use Rattle.std.proofs.lemmas.Option.{none-some}
-use Rattle.std.specs.FinMap.{get}
 use Rattle.pre_base.specs.Told.{WhereTold}
 use Rattle.pre_base.specs.Shelves.{Told, IsMissing}
-use Rattle.pre_cli.specs.declared.statuses.FileWord.{FileWord}
-use Rattle.pre_cli.specs.declared.statuses.FileWord.TheVariants as file
 use Rattle.pre_cli.specs.declared.statuses.Status.{Status}
 use Rattle.pre_cli.specs.declared.statuses.Status.TheVariants as status
-use Rattle.pre_cli.specs.Scripts.{IsDue, IsRead, fault_in, max_file}
+use Rattle.pre_cli.specs.Scripts.{IsDue}
 use Rattle.pre_cli.specs.Answers.{Cause, HasScript, Outside}
 use Rattle.pre_cli.specs.Due.{GivesUp, HasFault, IsDueFor, TellsFiles, TellsScript}
 
@@ -48,6 +45,8 @@ pub wrong_words : (s : Status) (o : Outside) → Cause s None o → s ≡ status
 wrong_words status.Words o cause = refl
 wrong_words status.Done o cause = absurd cause
 wrong_words status.ReadFault o cause = absurd cause
+wrong_words (status.Rules kind row rule) o cause = absurd cause
+wrong_words (status.Unfit unfit) o cause = absurd cause
 wrong_words status.WriteFault o cause = absurd cause
 wrong_words (status.Form kind line rule) o cause = absurd cause
 wrong_words status.Memory o cause = absurd cause
@@ -56,6 +55,8 @@ pub missing_script : (s : Status) (name : List ℕ) (o : Outside) (told : Told) 
 missing_script status.ReadFault name o told tells missing cause = inl refl
 missing_script status.Memory name o told tells missing cause = inr refl
 missing_script status.Words name o told tells missing cause = absurd (none-some name (sym cause))
+missing_script (status.Rules kind row rule) name o told tells missing cause = absurd cause
+missing_script (status.Unfit unfit) name o told tells missing cause = absurd cause
 missing_script status.Done name o told tells missing cause = absurd (not_missing o name None told tells missing cause)
 missing_script status.WriteFault name o told tells missing cause = absurd (not_missing o name None told tells missing cause.1)
 missing_script (status.Form kind line rule) name o told tells missing cause = absurd (not_missing o name (Some (line, rule)) told tells missing cause.1)
@@ -67,6 +68,8 @@ gave_up o name f tells (inr rose) = inr (refl, rose)
 
 pub script_answer : (s : Status) (name : List ℕ) (fault : Option (ℕ × ℕ)) (o : Outside) → TellsScript o name fault → Cause s (Some name) o → IsDueFor o fault s
 script_answer status.Words name fault o tells cause = absurd (none-some name (sym cause))
+script_answer (status.Rules kind row rule) name fault o tells cause = absurd cause
+script_answer (status.Unfit unfit) name fault o tells cause = absurd cause
 script_answer status.Done name None o tells cause = inl refl
 script_answer status.Done name (Some place) o tells cause = absurd (none-some place (sym (same_fault o name (Some place) None tells cause)))
 script_answer status.WriteFault name None o tells cause = inr (inl (refl, cause.0))

@@ -1,7 +1,6 @@
 -- The cause of an answer leaves no other, where a file of mPackets is to be listed.
-use Rattle.std.proofs.Common.{◌≡◌, ◌⊎◌, inl, inr, ℕ, ◌<◌, ◌≤◌, List, length, Option, Some, None, refl, sym, ◌∙◌, subst, arith}
+use Rattle.std.proofs.Common.{◌≡◌, ◌⊎◌, inl, inr, ℕ, List, Option, Some, None, refl, sym, ◌∙◌, subst, arith}
 use Rattle.std.proofs.lemmas.Option.{none-some}
-use Rattle.std.specs.FinMap.{get}
 use Rattle.pre_base.specs.Told.{WhereTold}
 use Rattle.pre_base.specs.Shelves.{Told, IsMissing}
 use Rattle.pre_cli.specs.declared.statuses.Status.{Status}
@@ -40,6 +39,8 @@ pub missing_packets : (s : Status) (name : List ℕ) (o : Outside) (told : Told)
 missing_packets status.ReadFault name o told tells missing cause = inl refl
 missing_packets status.Memory name o told tells missing cause = inr refl
 missing_packets status.Words name o told tells missing cause = absurd cause
+missing_packets (status.Rules kind row rule) name o told tells missing cause = absurd cause
+missing_packets (status.Unfit unfit) name o told tells missing cause = absurd cause
 missing_packets status.Done name o told tells missing cause = absurd (not_missing o name None told tells missing cause)
 missing_packets status.WriteFault name o told tells missing cause = absurd (not_missing o name None told tells missing cause.1)
 missing_packets (status.Form kind line rule) name o told tells missing cause = absurd (not_missing o name (Some (line, rule)) told tells missing cause.1)
@@ -50,6 +51,8 @@ gave_up o name f tells (inr rose) = inr (refl, rose)
 
 pub packets_answer : (s : Status) (name : List ℕ) (fault : Option (ℕ × ℕ)) (o : Outside) → TellsPackets o name fault → ListingCause s name o → IsListingDue o fault s
 packets_answer status.Words name fault o tells cause = absurd cause
+packets_answer (status.Rules kind row rule) name fault o tells cause = absurd cause
+packets_answer (status.Unfit unfit) name fault o tells cause = absurd cause
 packets_answer status.Done name None o tells cause = inl refl
 packets_answer status.Done name (Some place) o tells cause = absurd (none-some place (sym (same_fault o name (Some place) None tells cause)))
 packets_answer status.WriteFault name None o tells cause = inr (inl (refl, cause.0))

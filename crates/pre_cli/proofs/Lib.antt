@@ -1,4 +1,5 @@
 pub mod Two
+mod Numbers
 pub mod Runs
 pub mod Steps
 pub mod Causes
@@ -7,3 +8,5 @@ pub mod OneTrace
 pub mod PacketLines
 pub mod ListLemmas
 pub mod DueListing
+mod CertifyLemmas
+pub mod DueCertificate

@@ -1,11 +1,11 @@
 -- A listing grows by a line for each arrival.
-use Rattle.std.proofs.Common.{◌≡◌, ℕ, suc, ◌+◌, ◌<◌, ◌≤◌, List, [], ◌∷◌, ◌++◌, length, take, map, Option, Some, None, Result, Ok, Err, refl, sym, ◌∙◌, ap, subst, arith, append_assoc, length-append}
+use Rattle.std.proofs.Common.{◌≡◌, ℕ, suc, ◌+◌, ◌<◌, List, [], ◌∷◌, ◌++◌, length, take, Option, Some, None, Result, Ok, Err, refl, sym, ◌∙◌, ap, subst, arith, append_assoc, length-append}
 use Rattle.std.specs.Prelude.{◌↔◌}
 use Rattle.std.specs.Result.{IsErr}
 use Rattle.std.proofs.lemmas.Bool.{false≢true}
 use Rattle.std.proofs.lemmas.List.{append-nil, length-map}
-use Rattle.pre_base.specs.Told.{WhereTold, WhereTold-join, WhereTold-map}
-use Rattle.pre_base.specs.Sinks.{Taken, TakesBut}
+use Rattle.pre_base.specs.Told.{WhereTold, WhereTold-join}
+use Rattle.pre_base.specs.Sinks.{Taken}
 use Rattle.pre_base.specs.Pieces.{TakesWhole, TakesFront}
 use Rattle.pre_receive.specs.Takings.{Taking, IsTaken}
 use Rattle.std.proofs.Math.Seq.{take-length}
@@ -110,6 +110,8 @@ flushed_leaves status.WriteFault octets arrivals a b c due took ends =
 flushed_leaves status.Memory octets arrivals a b c due took ends = absurd ends
 flushed_leaves status.Words octets arrivals a b c due took ends = absurd ends
 flushed_leaves status.ReadFault octets arrivals a b c due took ends = absurd ends
+flushed_leaves (status.Rules kind row rule) octets arrivals a b c due took ends = absurd ends
+flushed_leaves (status.Unfit cause) octets arrivals a b c due took ends = absurd ends
 flushed_leaves (status.Form kind line rule) octets arrivals a b c due took ends = absurd ends
 
 pub read_well : (found : List (List ℕ)) (due : Result (List (List ℕ)) ℕ) → ReadsAs (Ok found) due → due ≡ Ok found

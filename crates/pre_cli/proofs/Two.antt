@@ -1,5 +1,5 @@
 -- A text that is written in two pieces.
-use Rattle.std.proofs.Common.{◌≡◌, ℕ, List, ◌++◌, Option, Result}
+use Rattle.std.proofs.Common.{ℕ, List, ◌++◌, Option, Result}
 use Rattle.std.specs.Result.{IsErr}
 use Rattle.pre_base.specs.Told.{WhereTold}
 use Rattle.pre_base.specs.Sinks.{Taken, TakesAll}

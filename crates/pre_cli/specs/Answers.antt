@@ -1,11 +1,10 @@
 -- Each answer of the top call has one cause, and no two of these causes hold together.
-use Rattle.std.specs.Prelude.{◌≡◌, ◌≢◌, ℕ, ◌⊎◌, ◌≤◌, List, Option, Some, None}
+use Rattle.std.specs.Prelude.{◌≡◌, ℕ, ◌⊎◌, List, Option, Some, None}
 use Rattle.std.specs.FinMap.{get}
 use Rattle.pre_base.specs.Faults.{Rose}
 use Rattle.pre_base.specs.Told.{WhereTold}
 use Rattle.pre_base.specs.Shelves.{Told, IsMissing}
 use Rattle.pre_base.specs.Sinks.{Taken}
-use Rattle.pre_cli.specs.declared.statuses.FileWord.{FileWord}
 use Rattle.pre_cli.specs.declared.statuses.FileWord.TheVariants as file
 use Rattle.pre_cli.specs.declared.statuses.Status.{Status}
 use Rattle.pre_cli.specs.declared.statuses.Status.TheVariants as status
@@ -36,6 +35,8 @@ Named (Some name) P = P name
 -- the cause of each answer; want of memory is free
 abbrev pub Cause : Status → Option (List ℕ) → Outside → Type 0
 Cause status.Words named o = named ≡ None
+Cause (status.Rules kind row rule) named o = ⊥
+Cause (status.Unfit unfit) named o = ⊥
 Cause status.ReadFault named o = Named named (λ name. IsMissing o.told_before name ⊎ Rose o.shelf_before o.shelf_after)
 Cause (status.Form kind line rule) named o = Named named (λ name. (kind ≡ file.Script) × WhereTold o.told_before o.told_after (HasScript name (Some (line, rule))))
 Cause status.WriteFault named o = Named named (λ name. Rose o.sink_before o.sink_after × WhereTold o.told_before o.told_after (HasScript name None))
@@ -57,5 +58,7 @@ Leaves status.Done named o = OfScript named o TakesTrace
 Leaves status.WriteFault named o = OfScript named o TakesTextFront
 Leaves status.Memory named o = (o.taken_after ≡ o.taken_before) ⊎ OfScript named o TakesTextFront
 Leaves status.Words named o = o.taken_after ≡ o.taken_before
+Leaves (status.Rules kind row rule) named o = o.taken_after ≡ o.taken_before
+Leaves (status.Unfit unfit) named o = o.taken_after ≡ o.taken_before
 Leaves status.ReadFault named o = o.taken_after ≡ o.taken_before
 Leaves (status.Form kind line rule) named o = o.taken_after ≡ o.taken_before

@@ -1,28 +1,53 @@
 -- The command that the words ask for, and its causes.
-use Rattle.std.specs.Prelude.{◌≡◌, ℕ, List, [], ◌∷◌, codes, Option, Some, None, if◌then◌else◌}
+use Rattle.std.specs.Prelude.{ℕ, List, [], ◌∷◌, codes, Option, Some, None, if◌then◌else◌}
 use Rattle.std.specs.Str.{bytes_eq}
 use Rattle.pre_cli.specs.declared.statuses.Status.{Status}
 use Rattle.pre_cli.specs.Words.{script_named}
 use Rattle.pre_cli.specs.Answers.{Outside, Cause, Leaves}
 use Rattle.pre_cli.specs.Listed.{ListingCause, ListingLeaves}
+use Rattle.pre_cli.specs.Certifying.{CertifyingCause, CertifyingLeaves}
 
 -- the name of the file, where the words are `mpackets` and a name
 abbrev pub packets_named : List (List ℕ) → Option (List ℕ)
 packets_named (command ∷ name ∷ []) = if bytes_eq command (codes "mpackets") then Some name else None
 packets_named _ = None
 
--- the cause of each answer, where the words name a file of mPackets to list, and where they don't
-abbrev pub CauseBy : Option (List ℕ) → Status → List (List ℕ) → Outside → Type 0
-CauseBy (Some name) s words o = ListingCause s name o
-CauseBy None s words o = Cause s (script_named words) o
+-- the words for the network and for the streams, where they are `certify` and two more
+abbrev pub files_named : List (List ℕ) → Option (List ℕ × List ℕ)
+files_named (command ∷ net ∷ streams ∷ []) = if bytes_eq command (codes "certify") then Some (net, streams) else None
+files_named _ = None
+
+-- the command that the words ask for, with its words
+pub data Command : Type 0 where
+  certifies : List ℕ → List ℕ → Command
+  lists : List ℕ → Command
+  replays : Option (List ℕ) → Command
+
+abbrev pub listing_or : Option (List ℕ) → List (List ℕ) → Command
+listing_or (Some name) words = lists name
+listing_or None words = replays (script_named words)
+
+abbrev pub certifying_or : Option (List ℕ × List ℕ) → List (List ℕ) → Command
+certifying_or (Some files) words = certifies files.0 files.1
+certifying_or None words = listing_or (packets_named words) words
+
+abbrev pub command_of : List (List ℕ) → Command
+command_of words = certifying_or (files_named words) words
+
+-- the cause of each answer, by the command
+abbrev pub CauseBy : Command → Status → Outside → Type 0
+CauseBy (certifies net streams) s o = CertifyingCause s net streams o
+CauseBy (lists name) s o = ListingCause s name o
+CauseBy (replays name) s o = Cause s name o
 
 abbrev pub CauseOf : Status → List (List ℕ) → Outside → Type 0
-CauseOf s words o = CauseBy (packets_named words) s words o
+CauseOf s words o = CauseBy (command_of words) s o
 
 -- and what the sink took
-abbrev pub LeavesBy : Option (List ℕ) → Status → List (List ℕ) → Outside → Type 0
-LeavesBy (Some name) s words o = ListingLeaves s name o o.taken_before o.taken_after
-LeavesBy None s words o = Leaves s (script_named words) o
+abbrev pub LeavesBy : Command → Status → Outside → Type 0
+LeavesBy (certifies net streams) s o = CertifyingLeaves s net streams o
+LeavesBy (lists name) s o = ListingLeaves s name o o.taken_before o.taken_after
+LeavesBy (replays name) s o = Leaves s name o
 
 abbrev pub LeavesOf : Status → List (List ℕ) → Outside → Type 0
-LeavesOf s words o = LeavesBy (packets_named words) s words o
+LeavesOf s words o = LeavesBy (command_of words) s o

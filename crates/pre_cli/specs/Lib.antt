@@ -9,5 +9,6 @@ pub mod Due
 pub mod PacketFiles
 pub mod Listing
 pub mod Listed
+pub mod Certifying
 pub mod Commands
 pub mod DueListings

@@ -1,5 +1,5 @@
 -- What the command that lists mPackets answers and leaves.
-use Rattle.std.specs.Prelude.{◌≡◌, ◌⊎◌, ℕ, ◌<◌, ◌≤◌, List, [], ◌∷◌, ◌++◌, length, Option, Some, None, Result, Ok, Err, true}
+use Rattle.std.specs.Prelude.{◌≡◌, ◌⊎◌, ℕ, ◌<◌, ◌≤◌, List, [], ◌∷◌, ◌++◌, length, Option, Some, None, Result, true}
 use Rattle.std.specs.FinMap.{get}
 use Rattle.pre_base.specs.Faults.{Rose}
 use Rattle.pre_base.specs.Told.{WhereTold}
@@ -66,6 +66,8 @@ IsFileCause _ name before now old new = ⊥
 -- the cause of each answer; want of memory is free
 abbrev pub ListingCause : Status → List ℕ → Outside → Type 0
 ListingCause status.Words name o = ⊥
+ListingCause (status.Rules kind row rule) name o = ⊥
+ListingCause (status.Unfit unfit) name o = ⊥
 ListingCause status.ReadFault name o = IsMissing o.told_before name ⊎ Rose o.shelf_before o.shelf_after
 ListingCause (status.Form kind line rule) name o = (kind ≡ file.Mpackets) × WhereTold o.told_before o.told_after (HasPackets name (Some (line, rule)))
 ListingCause status.WriteFault name o = Rose o.sink_before o.sink_after × WhereTold o.told_before o.told_after (HasPackets name None)

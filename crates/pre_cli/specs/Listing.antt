@@ -1,5 +1,5 @@
 -- The listing of a file of mPackets: a line for each, with what it gives to one receiver.
-use Rattle.std.specs.Prelude.{◌≡◌, ℕ, suc, ◌+◌, List, [], ◌∷◌, ◌++◌, length, map, take, codes, true, Option, Some, None, Result, Ok, Err}
+use Rattle.std.specs.Prelude.{◌≡◌, ℕ, suc, ◌+◌, List, [], ◌∷◌, ◌++◌, length, map, take, codes, Option, Some, None, Result, Ok, Err}
 use Rattle.std.specs.Fmt.{decimal}
 use Rattle.pre_base.specs.Sinks.{Taken, TakesBut}
 use Rattle.pre_text.specs.Writing.{hex, line_of}

@@ -1,5 +1,5 @@
 -- What the parts of a command answer.
-use Rattle.std.specs.Prelude.{◌≡◌, ℕ, ◌⊎◌, ◌≤◌, ◌<◌, List, length, Option, Some, None, Result, Ok, Err, true}
+use Rattle.std.specs.Prelude.{◌≡◌, ℕ, ◌⊎◌, ◌≤◌, ◌<◌, List, length, Option, Some, None, Result, Err, true}
 use Rattle.std.specs.FinMap.{get}
 use Rattle.pre_base.specs.Faults.{Rose}
 use Rattle.pre_base.specs.Told.{WhereTold}
@@ -20,6 +20,8 @@ FlushEnds status.WriteFault old new = WhereTold old new (λ a b. b.octets ≡ a.
 FlushEnds status.Memory old new = ⊥
 FlushEnds status.Words old new = ⊥
 FlushEnds status.ReadFault old new = ⊥
+FlushEnds (status.Rules kind row rule) old new = ⊥
+FlushEnds (status.Unfit cause) old new = ⊥
 FlushEnds (status.Form kind line rule) old new = ⊥
 
 -- the whole file of this name, which isn't too long
@@ -37,6 +39,8 @@ IsReadCause (status.Form kind line rule) name before now old new = (kind ≡ fil
 IsReadCause status.Memory name before now old new = Unit {0}
 IsReadCause status.Done name before now old new = ⊥
 IsReadCause status.Words name before now old new = ⊥
+IsReadCause (status.Rules kind row rule) name before now old new = ⊥
+IsReadCause (status.Unfit unfit) name before now old new = ⊥
 IsReadCause status.WriteFault name before now old new = ⊥
 
 -- why octets gave no script
@@ -44,6 +48,8 @@ abbrev pub IsScriptFault : Status → Result Script (ℕ × ℕ) → Type 0
 IsScriptFault (status.Form kind line rule) due = (kind ≡ file.Script) × (due ≡ Err (line, rule))
 IsScriptFault status.Memory due = Unit {0}
 IsScriptFault status.ReadFault due = ⊥
+IsScriptFault (status.Rules kind row rule) due = ⊥
+IsScriptFault (status.Unfit cause) due = ⊥
 IsScriptFault status.Done due = ⊥
 IsScriptFault status.Words due = ⊥
 IsScriptFault status.WriteFault due = ⊥
@@ -56,6 +62,8 @@ OctetsCause (status.Form kind line rule) octets before now = (kind ≡ file.Scri
 OctetsCause status.Memory octets before now = Unit {0}
 OctetsCause status.Words octets before now = ⊥
 OctetsCause status.ReadFault octets before now = ⊥
+OctetsCause (status.Rules kind row rule) octets before now = ⊥
+OctetsCause (status.Unfit cause) octets before now = ⊥
 
 -- what the octets of a script left in the sink
 abbrev pub OctetsLeaves : Status → List ℕ → Option Taken → Option Taken → Type 0
@@ -64,4 +72,6 @@ OctetsLeaves status.WriteFault octets old new = (w : Scenario) × Says octets w 
 OctetsLeaves status.Memory octets old new = (new ≡ old) ⊎ ((w : Scenario) × Says octets w × WhereTold old new (TakesTextFront w))
 OctetsLeaves status.Words octets old new = ⊥
 OctetsLeaves status.ReadFault octets old new = ⊥
+OctetsLeaves (status.Rules kind row rule) octets old new = ⊥
+OctetsLeaves (status.Unfit cause) octets old new = ⊥
 OctetsLeaves (status.Form kind line rule) octets old new = new ≡ old

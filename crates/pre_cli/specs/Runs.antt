@@ -1,5 +1,5 @@
 -- What a run left in the sink that its trace goes to, by how it ended.
-use Rattle.std.specs.Prelude.{◌≡◌, ℕ, ◌≤◌, Option, true}
+use Rattle.std.specs.Prelude.{ℕ, ◌≤◌, Option}
 use Rattle.pre_base.specs.Faults.{Rose}
 use Rattle.pre_base.specs.Told.{WhereTold}
 use Rattle.pre_base.specs.Sinks.{Taken}
@@ -24,6 +24,8 @@ RunEnds w status.WriteFault old new = WhereTold old new (TakesTextFront w)
 RunEnds w status.Memory old new = WhereTold old new (TakesTextFront w)
 RunEnds w status.Words old new = ⊥
 RunEnds w status.ReadFault old new = ⊥
+RunEnds w (status.Rules kind row rule) old new = ⊥
+RunEnds w (status.Unfit cause) old new = ⊥
 RunEnds w (status.Form kind line rule) old new = ⊥
 
 -- the sink's count of faults before and after, which rose where writing failed
@@ -33,4 +35,6 @@ RunCause status.Done before now = before ≤ now
 RunCause status.Memory before now = before ≤ now
 RunCause status.Words before now = ⊥
 RunCause status.ReadFault before now = ⊥
+RunCause (status.Rules kind row rule) before now = ⊥
+RunCause (status.Unfit cause) before now = ⊥
 RunCause (status.Form kind line rule) before now = ⊥

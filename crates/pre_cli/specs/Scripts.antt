@@ -1,5 +1,5 @@
 -- What is due of the octets of a script, for the built-in network and streams.
-use Rattle.std.specs.Prelude.{◌≡◌, ℕ, ◌^◌, List, length, Option, Some, None, Result, Ok, Err, ◌<◌, ◌≤◌, ◌⊎◌}
+use Rattle.std.specs.Prelude.{◌≡◌, ℕ, List, length, Option, Some, None, Result, Ok, Err, ◌<◌, ◌≤◌, ◌⊎◌}
 use Rattle.pre_topo.specs.declared.network.Network.{Network}
 use Rattle.pre_topo.specs.PairNetwork as network
 use Rattle.pre_streams.specs.declared.rows.Streams.{Streams}

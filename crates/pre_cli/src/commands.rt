@@ -1,7 +1,7 @@
 ghost use Rattle.std.specs.Prelude.{◌≡◌, map, string_bytes};
 ghost use Rattle.std.specs.Option.{option_map};
 ghost use Rattle.pre_cli.specs.Words.{script_named};
-ghost use Rattle.pre_cli.specs.Commands.{packets_named};
+ghost use Rattle.pre_cli.specs.Commands.{packets_named, files_named};
 
 /// The name of the script, where the words are `replay pair` and a name.
 pub(crate) fn script_named(words: &[String]) -> Option<&str>
@@ -20,6 +20,18 @@ pub(crate) fn packets_named(words: &[String]) -> Option<&str>
 {
     match words {
         [command, name] if command.as_str() == "mpackets" => Some(name.as_str()),
+        _ => None,
+    }
+}
+
+/// The names of the network file and the stream file, where the words are `certify` and two names.
+pub(crate) fn files_named(words: &[String]) -> Option<(&str, &str)>
+    ensures { option_map (λ names. (names.0.now, names.1.now)) result ≡ files_named (map string_bytes words.now) }
+{
+    match words {
+        [command, net, streams] if command.as_str() == "certify" => {
+            Some((net.as_str(), streams.as_str()))
+        }
         _ => None,
     }
 }

@@ -1,15 +1,19 @@
 //! The commands of the program, over a shelf of files and a sink of octets.
 #![tactic(auto)]
 
+mod certifying;
+mod certifying_laws;
 mod commands;
 mod laws;
 mod listing_laws;
 mod listings;
 mod packet_files;
 mod preempts;
+mod refusals;
 mod replays;
 mod statuses;
 
+pub use certifying_laws::due_certificates;
 pub use laws::{due_answers, one_trace};
 pub use listing_laws::due_listings;
 pub use preempts::preempt;

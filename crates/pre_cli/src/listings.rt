@@ -115,7 +115,7 @@ fn put_listing<S: Sink>(
 }
 
 /// Passes on what was written.
-fn flushed<S: Sink>(sink: &mut S) -> Status
+pub(crate) fn flushed<S: Sink>(sink: &mut S) -> Status
     ensures ends { IsFlushed result (S.tells sink.old) (S.tells sink.new) }
     ensures cause { result ≡ Status.WriteFault → Rose (S.faults sink.old) (S.faults sink.new) }
     ensures later { S.faults sink.old ≤ S.faults sink.new }

@@ -2,20 +2,22 @@ ghost use Rattle.std.specs.Prelude.{◌≡◌, ◌≤◌, map, string_bytes};
 ghost use Rattle.pre_cli.specs.Commands.{CauseOf, LeavesOf};
 
 use crate::Status;
-use crate::commands::{packets_named, script_named};
+use crate::certifying::certify_files;
+use crate::commands::{files_named, packets_named, script_named};
 use crate::listings::list_file;
 use crate::replays::replay_pair;
 use pre_base::{Shelf, Sink};
 use std::alloc::Global;
 
 /// Does the command that the words say, over the shelf's files, and writes what it gives to the sink. So far
-/// `replay pair SCRIPT` is known, which runs the script over the built-in network and streams, and writes the trace; and
-/// `mpackets FILE`, which writes a line for each mPacket of the file, with what it gives to one receiver.
+/// `certify NET STREAMS` is known, which writes the least certificate of the streams over the network, with `pair` for a
+/// built-in text; `replay pair SCRIPT`, which runs the script over the built-in network and streams, and writes the trace;
+/// and `mpackets FILE`, which writes a line for each mPacket of the file, with what it gives to one receiver.
 ///
 /// Each answer has its cause, and no two causes hold together; only want of memory is free. Where the answer is Done, the
 /// sink took the whole of it and nothing else, flushed: of `replay` the text of a legal history of what the script's file
 /// says to run, in which each delivery is a frame that was sent, octet for octet, and none is delivered twice; of
-/// `mpackets` the listing. Where writing failed, or memory ran out in a run, it took a front of such a text, and else
+/// `mpackets` the listing, and of `certify` the text of a certificate that is good and least. Where writing failed, or memory ran out in a run, it took a front of such a text, and else
 /// nothing.
 pub fn preempt<H: Shelf, S: Sink>(
     alloc: Global,
@@ -28,6 +30,9 @@ pub fn preempt<H: Shelf, S: Sink>(
     ensures shelf_later { H.faults shelf.old ≤ H.faults shelf.new }
     ensures sink_later { S.faults sink.old ≤ S.faults sink.new }
 {
+    if let Some((net, streams)) = files_named(words) {
+        return certify_files(alloc, net, streams, shelf, sink);
+    }
     if let Some(name) = packets_named(words) {
         return list_file(alloc, name, shelf, sink);
     }

@@ -4,7 +4,9 @@ ghost use Rattle.pre_base.specs.Told.{WhereTold};
 ghost use Rattle.pre_base.specs.Sinks.{TakesAll};
 ghost use Rattle.pre_cli.specs.Statuses.{number_of, file_word, behind_space, text_of, usage};
 
-use pre_base::{Failed, Sink, write_all};
+use crate::refusals::{put_rules, put_unfit};
+use pre_base::{Failed, FileRow, Sink, write_all};
+use pre_certify::Unfit;
 use pre_text::put_number;
 
 /// The kinds of file that words name.
@@ -18,7 +20,7 @@ pub enum FileWord {
 }
 
 /// What a command came to.
-#[derive(Clone, Copy, Debug, PartialEq, Eq)]
+#[derive(Debug, Drop)]
 pub enum Status {
     /// The whole was done.
     Done,
@@ -29,7 +31,19 @@ pub enum Status {
     /// The sink failed.
     WriteFault,
     /// The first fault of a file's grammar: its line from 1 and its rule, or 0 and 0 where the file is too long.
-    Form { file: FileWord, line: u64, rule: u8 },
+    Form {
+        file: FileWord,
+        line: u64,
+        rule: u8,
+    },
+    /// The first fault of the rules of a network or stream file: its row and its rule.
+    Rules {
+        file: FileWord,
+        row: FileRow,
+        rule: u8,
+    },
+    /// There is no certificate, for this cause.
+    Unfit(Unfit),
     /// Want of memory.
     Memory,
 }
@@ -47,7 +61,9 @@ impl Status {
             Status::ReadFault => 2,
             Status::WriteFault => 3,
             Status::Form { .. } => 4,
-            Status::Memory => 10,
+            Status::Rules { .. } => 5,
+            Status::Unfit(Unfit::Memory) | Status::Memory => 10,
+            Status::Unfit(_) => 6,
         }
     }
 }
@@ -64,7 +80,7 @@ fn form_word(file: FileWord) -> &'static [u8]
     }
 }
 
-fn put_behind_space<S: Sink>(sink: &mut S, n: u64) -> Result<(), Failed>
+pub(crate) fn put_behind_space<S: Sink>(sink: &mut S, n: u64) -> Result<(), Failed>
     ensures octets { WhereTold (S.tells sink.old) (S.tells sink.new) (TakesAll result (behind_space n)) }
     ensures cause { HasCause (S.faults sink.old) (S.faults sink.new) result }
 {
@@ -72,7 +88,7 @@ fn put_behind_space<S: Sink>(sink: &mut S, n: u64) -> Result<(), Failed>
     put_number(sink, n)
 }
 
-fn put_place<S: Sink>(sink: &mut S, line: u64, rule: u64) -> Result<(), Failed>
+pub(crate) fn put_place<S: Sink>(sink: &mut S, line: u64, rule: u64) -> Result<(), Failed>
     ensures octets { WhereTold (S.tells sink.old) (S.tells sink.new) (TakesAll result (behind_space line ++ behind_space rule)) }
     ensures cause { HasCause (S.faults sink.old) (S.faults sink.new) result }
 {
@@ -104,12 +120,14 @@ pub fn put_status<S: Sink>(status: &Status, sink: &mut S) -> Result<(), Failed>
     ensures octets { WhereTold (S.tells sink.old) (S.tells sink.new) (TakesAll result (text_of status.now)) }
     ensures cause { HasCause (S.faults sink.old) (S.faults sink.new) result }
 {
-    match *status {
+    match status {
         Status::Done => Ok(()),
         Status::Words => put_usage(sink),
         Status::ReadFault => write_all(sink, b"read fault"),
         Status::WriteFault => write_all(sink, b"write fault"),
-        Status::Form { file, line, rule } => put_form(sink, file, line, rule),
+        Status::Form { file, line, rule } => put_form(sink, *file, *line, *rule),
+        Status::Rules { file, row, rule } => put_rules(sink, *file, *row, *rule),
+        Status::Unfit(cause) => put_unfit(sink, cause),
         Status::Memory => write_all(sink, b"memory"),
     }
 }

@@ -28,7 +28,7 @@ fn kept(alloc: Global, args: env::Args) -> Result<Vec<String>, AllocError> {
 
 /// Writes the text of a status and the end of the line, and nothing for Done.
 fn report<R: Eprint>(rt: &R, status: &Status) -> Result<(), Failed> {
-    if *status == Status::Done {
+    if let Status::Done = status {
         return Ok(());
     }
     let mut sink = ErrSink::over(rt);

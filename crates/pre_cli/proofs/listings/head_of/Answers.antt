@@ -1,4 +1,4 @@
-use Rattle.std.proofs.Common.{◌≡◌, ◌+◌, ap, ◌∙◌, sym, Some, ◌∷◌, [], length, List, ℕ}
+use Rattle.std.proofs.Common.{◌+◌, ap, ◌∙◌, sym, ◌∷◌, [], length, List, ℕ}
 use Rattle.std.specs.Fmt.{decimal}
 use Rattle.pre_mpacket.specs.Spelling.{plain}
 use Rattle.pre_cli.specs.Listing.{packet_words}

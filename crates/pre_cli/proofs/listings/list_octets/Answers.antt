@@ -1,4 +1,4 @@
-use Rattle.std.proofs.Common.{◌≡◌, List, ℕ, Ok, subst, rules}
+use Rattle.std.proofs.Common.{List, ℕ, subst}
 use Rattle.pre_base.specs.Told.{WhereTold}
 use Rattle.pre_cli.specs.PacketFiles.{arrivals_of}
 use Rattle.pre_cli.specs.Listing.{TakesList}

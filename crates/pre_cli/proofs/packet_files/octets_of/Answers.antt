@@ -1,4 +1,4 @@
-use Rattle.std.proofs.Common.{◌≡◌, ℕ, ◌∙◌, ap, sym, Some, List, Option, subst, take, length, arith, rules}
+use Rattle.std.proofs.Common.{ℕ, ◌∙◌, ap, sym, Some, List, rules}
 use Rattle.std.specs.Prelude.{replicate}
 use Rattle.std.proofs.lemmas.List.{length-take-le}
 use Rattle.pre_text.specs.Words.{pairs_within}

@@ -1,7 +1,6 @@
-use Rattle.std.proofs.Common.{◌≡◌, ◌∙◌, ℕ, List, [], Result, Ok, sym, ap}
-use Rattle.pre_text.specs.Lines.{numbered_lines}
+use Rattle.std.proofs.Common.{◌∙◌, ℕ, List, Result, sym, ap}
 use Rattle.pre_cli.specs.PacketFiles.{after_line, after_lines, then_lines, arrivals_of}
-use Rattle.pre_cli.proofs.PacketLines.{line_goes, line_stops, all_read}
+use Rattle.pre_cli.proofs.PacketLines.{line_goes, all_read}
 use Rattle.pre_cli.proofs.packet_files.read_packets.Goals as goal
 
 pub loop-line-preserved : goal.loop-line-preserved

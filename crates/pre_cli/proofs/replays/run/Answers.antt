@@ -1,8 +1,5 @@
-use Rattle.std.proofs.Common.{◌≡◌, rules, subst, ◌∙◌, List, ℕ}
-use Rattle.pre_topo.specs.declared.network.Network.{Network}
+use Rattle.std.proofs.Common.{◌≡◌, rules, subst}
 use Rattle.pre_trace.specs.Scenario.{Scenario}
-use Rattle.pre_trace.specs.Legal.{Legal}
-use Rattle.pre_sim.specs.Steps.{StepTells}
 use Rattle.pre_cli.specs.Runs.{RunLeaves}
 use Rattle.pre_cli.proofs.Runs.{run_leaves, nothing_left}
 use Rattle.pre_cli.proofs.replays.run.Goals as goal

@@ -1,0 +1,269 @@
+-- What the parts of the command that certifies answer, as answers of the whole.
+use Rattle.std.proofs.Common.{◌≡◌, inl, inr, ℕ, ◌<◌, ◌≤◌, List, length, codes, [], Option, None, Some, Ok, Err, Bool, true, false, refl, sym, ◌∙◌, ap, subst, arith, if◌then◌else◌}
+use Rattle.std.proofs.lemmas.List.{append-nil}
+use Rattle.std.specs.Str.{bytes_eq}
+use Rattle.std.specs.FinMap.{get}
+use Rattle.pre_base.specs.Faults.{Rose}
+use Rattle.pre_base.specs.Told.{WhereTold, WhereTold-join, WhereTold-map}
+use Rattle.pre_base.specs.Shelves.{Told, Files}
+use Rattle.pre_base.specs.Reading.{IsWhole, HasAtLeast, SameFiles}
+use Rattle.pre_base.specs.Sinks.{Taken}
+use Rattle.pre_base.specs.Pieces.{TakesWhole, TakesFront}
+use Rattle.pre_topo.specs.declared.network.Network.{Network}
+use Rattle.pre_topo.specs.declared.faults.TopoFault.{TopoFault}
+use Rattle.pre_topo.specs.declared.faults.TopoFault.TheVariants as topo
+use Rattle.pre_topo.specs.NetworkOf as networks
+use Rattle.pre_streams.specs.declared.rows.Streams.{Streams}
+use Rattle.pre_streams.specs.declared.faults.StreamFault.{StreamFault}
+use Rattle.pre_streams.specs.declared.faults.StreamFault.TheVariants as stream
+use Rattle.pre_streams.specs.StreamsOf as rows
+use Rattle.pre_bound.specs.declared.certificate.Certificate.{Certificate}
+use Rattle.pre_bound.specs.Least.{Least}
+use Rattle.pre_certify.specs.declared.unfit.Unfit.{Unfit}
+use Rattle.pre_certify.specs.declared.unfit.Unfit.TheVariants as unfit
+use Rattle.pre_certify.specs.Causes.{Cause}
+use Rattle.pre_certify.specs.Text.{certificate_text}
+use Rattle.pre_cli.specs.declared.statuses.FileWord.{FileWord}
+use Rattle.pre_cli.specs.declared.statuses.FileWord.TheVariants as file
+use Rattle.pre_cli.specs.declared.statuses.Status.{Status}
+use Rattle.pre_cli.specs.declared.statuses.Status.TheVariants as status
+use Rattle.pre_cli.specs.Scripts.{max_file}
+use Rattle.pre_cli.specs.Answers.{Outside}
+use Rattle.pre_cli.specs.Listed.{IsFlushed}
+use Rattle.pre_cli.specs.Certifying.{text_named, IsTextIn, OfFiles, IsGone, IsFileIn, IsNoFile, IsLongFile, topo_status, stream_status, IsLong, IsNetIn, NetRefused, AreStreamsIn, StreamsRefused, InPlace, pair_network, pair_streams, unfit_status, CertifiedCause, TakesFlushed, CertifiedLeaves, AreBothIn, RefusedIn, GoneIn, CertifyingCause, CertifyingLeaves}
+
+-- ---- told values
+
+pub both : {A : Type 0} (a b : Option A) (P Q R : A → A → Type 0) → ((x y : A) → P x y → Q x y → R x y) → WhereTold a b P → WhereTold a b Q → WhereTold a b R
+both None None P Q R f p q = tt
+both None (Some y) P Q R f p q = absurd p
+both (Some x) None P Q R f p q = absurd p
+both (Some x) (Some y) P Q R f p q = f x y p q
+
+pub unmoved : (a : Option Told) (P : Files → Type 0) → ((files : Files) → P files) → WhereTold a a (OfFiles P)
+unmoved None P f = tt
+unmoved (Some x) P f = (f x.files, refl)
+
+of_more : (a b : Option Told) (P Q : Files → Type 0) → ((files : Files) → P files → Q files) → WhereTold a b (OfFiles P) → WhereTold a b (OfFiles Q)
+of_more a b P Q f = WhereTold-map a b (OfFiles P) (OfFiles Q) (λ x y p. (f x.files p.0, p.1))
+
+-- a fact before a call and one after it, of files that stay as they were
+of_both : (a b c : Option Told) (P Q R : Files → Type 0) → ((files : Files) → P files → Q files → R files) → WhereTold a b (OfFiles P) → WhereTold b c (OfFiles Q) → WhereTold a c (OfFiles R)
+of_both a b c P Q R f =
+    WhereTold-join a b c (OfFiles P) (OfFiles Q) (OfFiles R) (λ x y z p q. (f x.files p.0 (subst Q p.1 q.0), q.1 ∙ p.1))
+
+-- ---- one text
+
+pub long_file : (kind : FileWord) (word : List ℕ) (count : ℕ) (a b : Option Told) → max_file < count → WhereTold a b (HasAtLeast word count) → WhereTold a b SameFiles → WhereTold a b (OfFiles (IsLongFile kind word (status.Form kind 0 0)))
+long_file kind word count a b lt = both a b (HasAtLeast word count) SameFiles (OfFiles (IsLongFile kind word (status.Form kind 0 0))) (λ x y p same. ((p.0, p.1, omega (arith, lt, p.2), refl), same))
+
+pub whole_file : (word text : List ℕ) (a b : Option Told) → length text ≤ max_file → WhereTold a b (IsWhole word text) → WhereTold a b SameFiles → WhereTold a b (OfFiles (IsFileIn word text))
+whole_file word text a b short = both a b (IsWhole word text) SameFiles (OfFiles (IsFileIn word text)) (λ x y whole same. ((whole, short), same))
+
+named_pair : (built_in word : List ℕ) (files : Files) → bytes_eq word (codes "pair") ≡ true → text_named built_in word files ≡ Some built_in
+named_pair built_in word files is = ap (λ (b : Bool). if b then Some built_in else get files word) is
+
+named_file : (built_in word : List ℕ) (files : Files) → bytes_eq word (codes "pair") ≡ false → text_named built_in word files ≡ get files word
+named_file built_in word files is = ap (λ (b : Bool). if b then Some built_in else get files word) is
+
+pub pair_text : (built_in word : List ℕ) (a : Option Told) → bytes_eq word (codes "pair") ≡ true → length built_in ≤ max_file → WhereTold a a (OfFiles (IsTextIn built_in word built_in))
+pair_text built_in word a is short = unmoved a (IsTextIn built_in word built_in) (λ files. record { is = named_pair built_in word files is; short = short })
+
+pub file_text : (built_in word text : List ℕ) (a b : Option Told) → bytes_eq word (codes "pair") ≡ false → WhereTold a b (OfFiles (IsFileIn word text)) → WhereTold a b (OfFiles (IsTextIn built_in word text))
+file_text built_in word text a b is = of_more a b (IsFileIn word text) (IsTextIn built_in word text) (λ files p. record { is = named_file built_in word files is ∙ p.0; short = p.1 })
+
+gone_file : (built_in word : List ℕ) (a : Option Told) → bytes_eq word (codes "pair") ≡ false → IsNoFile word a → IsGone built_in word a
+gone_file built_in word None is gone = absurd gone
+gone_file built_in word (Some told) is gone = named_file built_in word told.files is ∙ gone
+
+long_text : (kind : FileWord) (built_in word : List ℕ) (s : Status) (a b : Option Told) → bytes_eq word (codes "pair") ≡ false → WhereTold a b (OfFiles (IsLongFile kind word s)) → WhereTold a b (OfFiles (IsLong kind built_in word s))
+long_text kind built_in word s a b is = of_more a b (IsLongFile kind word s) (IsLong kind built_in word s) (λ files p. (p.0, named_file built_in word files is ∙ p.1, p.2, p.3))
+
+pub file_cause : (s : Status) (kind : FileWord) (built_in word : List ℕ) (before now : ℕ) (a b : Option Told) → bytes_eq word (codes "pair") ≡ false
+    → InPlace s (IsNoFile word) (IsLongFile kind word) before now a b → InPlace s (IsGone built_in word) (IsLong kind built_in word) before now a b
+file_cause status.ReadFault kind built_in word before now a b is (inl gone) = inl (gone_file built_in word a is gone)
+file_cause status.ReadFault kind built_in word before now a b is (inr rose) = inr rose
+file_cause (status.Form k line rule) kind built_in word before now a b is cause = long_text kind built_in word (status.Form k line rule) a b is cause
+file_cause (status.Rules k row rule) kind built_in word before now a b is cause = long_text kind built_in word (status.Rules k row rule) a b is cause
+file_cause status.Memory kind built_in word before now a b is cause = tt
+file_cause status.Done kind built_in word before now a b is cause = absurd cause
+file_cause status.Words kind built_in word before now a b is cause = absurd cause
+file_cause status.WriteFault kind built_in word before now a b is cause = absurd cause
+file_cause (status.Unfit u) kind built_in word before now a b is cause = absurd cause
+
+-- ---- what is in place of a value, from more general causes
+
+pub more_causes : (s : Status) (gone : Option Told → Type 0) (P Q : Status → Files → Type 0) (before now : ℕ) (a b : Option Told) → ((files : Files) → P s files → Q s files) → InPlace s gone P before now a b → InPlace s gone Q before now a b
+more_causes status.ReadFault gone P Q before now a b f cause = cause
+more_causes (status.Form k line rule) gone P Q before now a b f cause = of_more a b (P (status.Form k line rule)) (Q (status.Form k line rule)) f cause
+more_causes (status.Rules k row rule) gone P Q before now a b f cause = of_more a b (P (status.Rules k row rule)) (Q (status.Rules k row rule)) f cause
+more_causes status.Memory gone P Q before now a b f cause = tt
+more_causes status.Done gone P Q before now a b f cause = absurd cause
+more_causes status.Words gone P Q before now a b f cause = absurd cause
+more_causes status.WriteFault gone P Q before now a b f cause = absurd cause
+more_causes (status.Unfit u) gone P Q before now a b f cause = absurd cause
+
+pub net_long : (s : Status) (word : List ℕ) (before now : ℕ) (a b : Option Told) → InPlace s (IsGone pair_network word) (IsLong file.Net pair_network word) before now a b → InPlace s (IsGone pair_network word) (NetRefused word) before now a b
+net_long s word before now a b = more_causes s (IsGone pair_network word) (IsLong file.Net pair_network word) (NetRefused word) before now a b (λ files p. inl p)
+
+pub streams_long : (s : Status) (word : List ℕ) (net : Network) (before now : ℕ) (a b : Option Told) → InPlace s (IsGone pair_streams word) (IsLong file.Streams pair_streams word) before now a b → InPlace s (IsGone pair_streams word) (StreamsRefused word net) before now a b
+streams_long s word net before now a b = more_causes s (IsGone pair_streams word) (IsLong file.Streams pair_streams word) (StreamsRefused word net) before now a b (λ files p. inl p)
+
+-- ---- a network
+
+pub net_read : (word text : List ℕ) (net : Network) (a b : Option Told) → networks.network_of text ≡ Ok (networks.parts_of net) → WhereTold a b (OfFiles (IsTextIn pair_network word text)) → WhereTold a b (OfFiles (IsNetIn word net))
+net_read word text net a b read = of_more a b (IsTextIn pair_network word text) (IsNetIn word net) (λ files p. (text, p, read))
+
+net_fault : (word text : List ℕ) (fault : TopoFault) (a b : Option Told) → networks.network_of text ≡ Err fault → WhereTold a b (OfFiles (IsTextIn pair_network word text)) → WhereTold a b (OfFiles (NetRefused word (topo_status fault)))
+net_fault word text fault a b read = of_more a b (IsTextIn pair_network word text) (NetRefused word (topo_status fault)) (λ files p. inr (text, p, (fault, read, refl)))
+
+pub net_refused : (fault : TopoFault) (word text : List ℕ) (before now : ℕ) (a b : Option Told) → networks.IsDue fault (networks.network_of text) → WhereTold a b (OfFiles (IsTextIn pair_network word text))
+    → InPlace (topo_status fault) (IsGone pair_network word) (NetRefused word) before now a b
+net_refused topo.Toml word text before now a b due is = net_fault word text topo.Toml a b due is
+net_refused (topo.Field row) word text before now a b due is = net_fault word text (topo.Field row) a b due is
+net_refused (topo.Name row) word text before now a b due is = net_fault word text (topo.Name row) a b due is
+net_refused (topo.End row) word text before now a b due is = net_fault word text (topo.End row) a b due is
+net_refused (topo.Range row) word text before now a b due is = net_fault word text (topo.Range row) a b due is
+net_refused topo.Count word text before now a b due is = net_fault word text topo.Count a b due is
+net_refused topo.Slots word text before now a b due is = net_fault word text topo.Slots a b due is
+net_refused topo.Wires word text before now a b due is = net_fault word text topo.Wires a b due is
+net_refused topo.Memory word text before now a b due is = tt
+
+-- ---- streams
+
+pub streams_read : (word text : List ℕ) (net : Network) (streams : Streams) (a b : Option Told) → rows.ReadsAs (Ok streams) (rows.streams_of net text) → WhereTold a b (OfFiles (IsTextIn pair_streams word text)) → WhereTold a b (OfFiles (AreStreamsIn word net streams))
+streams_read word text net streams a b read = of_more a b (IsTextIn pair_streams word text) (AreStreamsIn word net streams) (λ files p. (text, p, read))
+
+streams_fault : (word text : List ℕ) (net : Network) (fault : StreamFault) (a b : Option Told) → rows.streams_of net text ≡ Err fault → WhereTold a b (OfFiles (IsTextIn pair_streams word text)) → WhereTold a b (OfFiles (StreamsRefused word net (stream_status fault)))
+streams_fault word text net fault a b read = of_more a b (IsTextIn pair_streams word text) (StreamsRefused word net (stream_status fault)) (λ files p. inr (text, p, (fault, read, refl)))
+
+pub streams_refused : (fault : StreamFault) (word text : List ℕ) (net : Network) (before now : ℕ) (a b : Option Told) → rows.IsDue fault (rows.streams_of net text) → WhereTold a b (OfFiles (IsTextIn pair_streams word text))
+    → InPlace (stream_status fault) (IsGone pair_streams word) (StreamsRefused word net) before now a b
+streams_refused stream.Toml word text net before now a b due is = streams_fault word text net stream.Toml a b due is
+streams_refused (stream.Field row) word text net before now a b due is = streams_fault word text net (stream.Field row) a b due is
+streams_refused (stream.Name row) word text net before now a b due is = streams_fault word text net (stream.Name row) a b due is
+streams_refused (stream.Route row hop) word text net before now a b due is = streams_fault word text net (stream.Route row hop) a b due is
+streams_refused (stream.Class row) word text net before now a b due is = streams_fault word text net (stream.Class row) a b due is
+streams_refused (stream.Range row) word text net before now a b due is = streams_fault word text net (stream.Range row) a b due is
+streams_refused (stream.Burst row) word text net before now a b due is = streams_fault word text net (stream.Burst row) a b due is
+streams_refused stream.Count word text net before now a b due is = streams_fault word text net stream.Count a b due is
+streams_refused stream.Memory word text net before now a b due is = tt
+
+-- ---- the certificate
+
+pub unfit_cause : (u : Unfit) (net : Network) (streams : Streams) (before now : ℕ) → Cause net streams.rows u → CertifiedCause (unfit_status u) net streams before now
+unfit_cause (unfit.Overload arc) net streams before now cause = cause
+unfit_cause (unfit.Cycle arcs) net streams before now cause = cause
+unfit_cause (unfit.Large arc prio) net streams before now cause = cause
+unfit_cause (unfit.Ring arc prio need) net streams before now cause = cause
+unfit_cause unfit.Memory net streams before now cause = tt
+
+pub unfit_leaves : (u : Unfit) (net : Network) (streams : Streams) (a : Option Taken) → CertifiedLeaves (unfit_status u) net streams a a
+unfit_leaves (unfit.Overload arc) net streams a = refl
+unfit_leaves (unfit.Cycle arcs) net streams a = refl
+unfit_leaves (unfit.Large arc prio) net streams a = refl
+unfit_leaves (unfit.Ring arc prio need) net streams a = refl
+unfit_leaves unfit.Memory net streams a = refl
+
+-- the certificate was written whole, and then passed on or not
+pub flushed_leaves : (s : Status) (net : Network) (streams : Streams) (k : Certificate) (a b c : Option Taken) → Least net streams k → WhereTold a b (TakesWhole (certificate_text net streams.rows k)) → IsFlushed s b c → CertifiedLeaves s net streams a c
+flushed_leaves status.Done net streams k a b c least took ends =
+    (k, least, WhereTold-join a b c _ _ (TakesFlushed (certificate_text net streams.rows k)) (λ x y z p q. (q.0 ∙ p, q.1)) took ends)
+flushed_leaves status.WriteFault net streams k a b c least took ends =
+    (k, least, WhereTold-join a b c _ _ (TakesFront (certificate_text net streams.rows k)) (λ x y z p q. ([], (certificate_text net streams.rows k, sym (append-nil (certificate_text net streams.rows k)), q ∙ p))) took ends)
+flushed_leaves status.ReadFault net streams k a b c least took ends = absurd ends
+flushed_leaves (status.Form kind line rule) net streams k a b c least took ends = absurd ends
+flushed_leaves (status.Rules kind row rule) net streams k a b c least took ends = absurd ends
+flushed_leaves (status.Unfit u) net streams k a b c least took ends = absurd ends
+flushed_leaves status.Memory net streams k a b c least took ends = absurd ends
+flushed_leaves status.Words net streams k a b c least took ends = absurd ends
+
+pub flushed_cause : (s : Status) (net : Network) (streams : Streams) (k : Certificate) (before between now : ℕ) (a b : Option Taken) → Least net streams k → before ≤ between → IsFlushed s a b → (s ≡ status.WriteFault → Rose between now)
+    → CertifiedCause s net streams before now
+flushed_cause status.Done net streams k before between now a b least later ends rose = (k, least)
+flushed_cause status.WriteFault net streams k before between now a b least later ends rose = (omega (arith, later, rose refl), (k, least))
+flushed_cause status.ReadFault net streams k before between now a b least later ends rose = absurd ends
+flushed_cause (status.Form kind line rule) net streams k before between now a b least later ends rose = absurd ends
+flushed_cause (status.Rules kind row rule) net streams k before between now a b least later ends rose = absurd ends
+flushed_cause (status.Unfit u) net streams k before between now a b least later ends rose = absurd ends
+flushed_cause status.Memory net streams k before between now a b least later ends rose = absurd ends
+flushed_cause status.Words net streams k before between now a b least later ends rose = absurd ends
+
+-- ---- the command
+
+net_gone : (net_word streams_word : List ℕ) (a : Option Told) → IsGone pair_network net_word a → GoneIn net_word streams_word a
+net_gone net_word streams_word None gone = absurd gone
+net_gone net_word streams_word (Some told) gone = inl gone
+
+-- the network wasn't read
+pub net_cause : (s : Status) (net_word streams_word : List ℕ) (o : Outside) → InPlace s (IsGone pair_network net_word) (NetRefused net_word) o.shelf_before o.shelf_after o.told_before o.told_after → CertifyingCause s net_word streams_word o
+net_cause status.ReadFault net_word streams_word o (inl gone) = inl (net_gone net_word streams_word o.told_before gone)
+net_cause status.ReadFault net_word streams_word o (inr rose) = inr rose
+net_cause (status.Form k line rule) net_word streams_word o cause = of_more o.told_before o.told_after (NetRefused net_word (status.Form k line rule)) (RefusedIn net_word streams_word (status.Form k line rule)) (λ files p. inl p) cause
+net_cause (status.Rules k row rule) net_word streams_word o cause = of_more o.told_before o.told_after (NetRefused net_word (status.Rules k row rule)) (RefusedIn net_word streams_word (status.Rules k row rule)) (λ files p. inl p) cause
+net_cause status.Memory net_word streams_word o cause = tt
+net_cause status.Done net_word streams_word o cause = absurd cause
+net_cause status.Words net_word streams_word o cause = absurd cause
+net_cause status.WriteFault net_word streams_word o cause = absurd cause
+net_cause (status.Unfit u) net_word streams_word o cause = absurd cause
+
+streams_gone : (net_word streams_word : List ℕ) (net : Network) (a b : Option Told) → WhereTold a b (OfFiles (IsNetIn net_word net)) → IsGone pair_streams streams_word b → GoneIn net_word streams_word a
+streams_gone net_word streams_word net None None read gone = absurd gone
+streams_gone net_word streams_word net None (Some y) read gone = absurd read
+streams_gone net_word streams_word net (Some x) None read gone = absurd read
+streams_gone net_word streams_word net (Some x) (Some y) read gone = inr (net, read.0, subst (λ (files : Files). text_named pair_streams streams_word files ≡ None) read.1 gone)
+
+-- the network was read, and the streams weren't
+pub streams_cause : (s : Status) (net_word streams_word : List ℕ) (net : Network) (o : Outside) (between : ℕ) (b : Option Told) → o.shelf_before ≤ between → WhereTold o.told_before b (OfFiles (IsNetIn net_word net))
+    → InPlace s (IsGone pair_streams streams_word) (StreamsRefused streams_word net) between o.shelf_after b o.told_after → CertifyingCause s net_word streams_word o
+streams_cause status.ReadFault net_word streams_word net o between b later read (inl gone) = inl (streams_gone net_word streams_word net o.told_before b read gone)
+streams_cause status.ReadFault net_word streams_word net o between b later read (inr rose) = inr (omega (arith, later, rose))
+streams_cause (status.Form k line rule) net_word streams_word net o between b later read cause =
+    of_both o.told_before b o.told_after (IsNetIn net_word net) (StreamsRefused streams_word net (status.Form k line rule)) (RefusedIn net_word streams_word (status.Form k line rule)) (λ files p q. inr (inl (net, p, q))) read cause
+streams_cause (status.Rules k row rule) net_word streams_word net o between b later read cause =
+    of_both o.told_before b o.told_after (IsNetIn net_word net) (StreamsRefused streams_word net (status.Rules k row rule)) (RefusedIn net_word streams_word (status.Rules k row rule)) (λ files p q. inr (inl (net, p, q))) read cause
+streams_cause status.Memory net_word streams_word net o between b later read cause = tt
+streams_cause status.Done net_word streams_word net o between b later read cause = absurd cause
+streams_cause status.Words net_word streams_word net o between b later read cause = absurd cause
+streams_cause status.WriteFault net_word streams_word net o between b later read cause = absurd cause
+streams_cause (status.Unfit u) net_word streams_word net o between b later read cause = absurd cause
+
+-- both were read
+pub both_in : (net_word streams_word : List ℕ) (net : Network) (streams : Streams) (a b c : Option Told) → WhereTold a b (OfFiles (IsNetIn net_word net)) → WhereTold b c (OfFiles (AreStreamsIn streams_word net streams))
+    → WhereTold a c (OfFiles (AreBothIn net_word streams_word net streams))
+both_in net_word streams_word net streams a b c = of_both a b c (IsNetIn net_word net) (AreStreamsIn streams_word net streams) (AreBothIn net_word streams_word net streams) (λ files p q. (p, q))
+
+pub certified_cause : (s : Status) (net_word streams_word : List ℕ) (net : Network) (streams : Streams) (o : Outside) → WhereTold o.told_before o.told_after (OfFiles (AreBothIn net_word streams_word net streams))
+    → CertifiedCause s net streams o.sink_before o.sink_after → CertifyingCause s net_word streams_word o
+certified_cause status.Done net_word streams_word net streams o read cause = (net, streams, read, cause)
+certified_cause status.WriteFault net_word streams_word net streams o read cause = (cause.0, (net, streams, read, cause.1))
+certified_cause (status.Unfit u) net_word streams_word net streams o read cause =
+    of_more o.told_before o.told_after (AreBothIn net_word streams_word net streams) (RefusedIn net_word streams_word (status.Unfit u)) (λ files p. inr (inr (net, streams, p, (u, cause, refl)))) read
+certified_cause status.Memory net_word streams_word net streams o read cause = tt
+certified_cause status.Words net_word streams_word net streams o read cause = absurd cause
+certified_cause status.ReadFault net_word streams_word net streams o read cause = absurd cause
+certified_cause (status.Form kind line rule) net_word streams_word net streams o read cause = absurd cause
+certified_cause (status.Rules kind row rule) net_word streams_word net streams o read cause = absurd cause
+
+pub certified_leaves : (s : Status) (net_word streams_word : List ℕ) (net : Network) (streams : Streams) (o : Outside) → WhereTold o.told_before o.told_after (OfFiles (AreBothIn net_word streams_word net streams))
+    → CertifiedLeaves s net streams o.taken_before o.taken_after → CertifyingLeaves s net_word streams_word o
+certified_leaves status.Done net_word streams_word net streams o read took = (net, streams, read, took)
+certified_leaves status.WriteFault net_word streams_word net streams o read took = (net, streams, read, took)
+certified_leaves (status.Unfit u) net_word streams_word net streams o read took = took
+certified_leaves status.Memory net_word streams_word net streams o read took = took
+certified_leaves status.Words net_word streams_word net streams o read took = took
+certified_leaves status.ReadFault net_word streams_word net streams o read took = took
+certified_leaves (status.Form kind line rule) net_word streams_word net streams o read took = took
+certified_leaves (status.Rules kind row rule) net_word streams_word net streams o read took = took
+
+-- where a text wasn't read the sink is left alone
+pub nothing_left : (s : Status) (net_word streams_word : List ℕ) (o : Outside) (gone : Option Told → Type 0) (refused : Status → Files → Type 0) (before now : ℕ) (a b : Option Told) → o.taken_after ≡ o.taken_before
+    → InPlace s gone refused before now a b → CertifyingLeaves s net_word streams_word o
+nothing_left status.ReadFault net_word streams_word o gone refused before now a b same cause = same
+nothing_left (status.Form k line rule) net_word streams_word o gone refused before now a b same cause = same
+nothing_left (status.Rules k row rule) net_word streams_word o gone refused before now a b same cause = same
+nothing_left status.Memory net_word streams_word o gone refused before now a b same cause = same
+nothing_left status.Done net_word streams_word o gone refused before now a b same cause = absurd cause
+nothing_left status.Words net_word streams_word o gone refused before now a b same cause = absurd cause
+nothing_left status.WriteFault net_word streams_word o gone refused before now a b same cause = absurd cause
+nothing_left (status.Unfit u) net_word streams_word o gone refused before now a b same cause = absurd cause

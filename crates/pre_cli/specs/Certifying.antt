@@ -1,0 +1,225 @@
+-- What the command that certifies reads, answers and leaves.
+use Rattle.std.specs.Prelude.{◌≡◌, ◌⊎◌, ℕ, ◌<◌, ◌≤◌, List, ◌++◌, length, map, codes, Option, Some, None, Ok, Err, true, if◌then◌else◌}
+use Rattle.std.specs.Str.{bytes_eq}
+use Rattle.std.specs.FinMap.{get}
+use Rattle.pre_base.specs.Faults.{Rose}
+use Rattle.pre_base.specs.Told.{WhereTold}
+use Rattle.pre_base.specs.Shelves.{Told, Files, IsMissing}
+use Rattle.pre_base.specs.Sinks.{Taken}
+use Rattle.pre_base.specs.Pieces.{TakesFront}
+use Rattle.pre_base.specs.declared.numbers.FileRow.TheVariants.{Top}
+use Rattle.pre_topo.specs.declared.network.Network.{Network}
+use Rattle.pre_topo.specs.declared.faults.TopoFault.{TopoFault}
+use Rattle.pre_topo.specs.declared.faults.TopoFault.TheVariants as topo
+use Rattle.pre_topo.specs.NetworkOf.{network_of, parts_of}
+use Rattle.pre_streams.specs.declared.rows.Row.{Row}
+use Rattle.pre_streams.specs.declared.rows.Streams.{Streams}
+use Rattle.pre_streams.specs.declared.faults.StreamFault.{StreamFault}
+use Rattle.pre_streams.specs.declared.faults.StreamFault.TheVariants as stream
+use Rattle.pre_streams.specs.StreamsOf.{streams_of}
+use Rattle.pre_streams.specs.Made.{row_parts}
+use Rattle.pre_bound.specs.declared.certificate.Certificate.{Certificate}
+use Rattle.pre_bound.specs.Least.{Least}
+use Rattle.pre_certify.specs.declared.unfit.Unfit.{Unfit}
+use Rattle.pre_certify.specs.declared.unfit.Unfit.TheVariants as unfit
+use Rattle.pre_certify.specs.Causes.{Cause}
+use Rattle.pre_certify.specs.Text.{certificate_text}
+use Rattle.pre_cli.specs.declared.statuses.FileWord.{FileWord}
+use Rattle.pre_cli.specs.declared.statuses.FileWord.TheVariants as file
+use Rattle.pre_cli.specs.declared.statuses.Status.{Status}
+use Rattle.pre_cli.specs.declared.statuses.Status.TheVariants as status
+use Rattle.pre_cli.specs.Scripts.{max_file}
+use Rattle.pre_cli.specs.Answers.{Outside}
+
+-- ---- the texts that the words stand for
+
+-- the built-in texts: two stations and a link that preempts; a stream and a flow from the one to the other
+unfoldable pub pair_network : List ℕ
+pair_network = codes "express_from = 4\n[[node]]\nname = \"a\"\nkind = \"station\"\n[[node]]\nname = \"b\"\nkind = \"station\"\n[[link]]\nends = [\"a\", \"b\"]\ncost = 1\nmode = \"on\"\nrings = [64, 64, 64, 64, 64, 64, 64, 64]\n"
+
+unfoldable pub pair_streams : List ℕ
+pair_streams = codes "[[stream]]\nname = \"x\"\nvid = 10\nprio = 6\nroute = [\"a\", \"b\"]\nmax = 1522\nburst = 2000\nrate = 100000\n[[flow]]\nname = \"y\"\nvid = 20\nprio = 0\nroute = [\"a\", \"b\"]\nmax = 1522\n"
+
+-- the built-in text for the word `pair`, and else the file of that name
+abbrev pub text_named : List ℕ → List ℕ → Files → Option (List ℕ)
+text_named built_in word files = if bytes_eq word (codes "pair") then Some built_in else get files word
+
+-- the word stands for this text, which isn't too long
+pub record IsTextIn (built_in word text : List ℕ) (files : Files) : Type 0 where
+  pub is : text_named built_in word files ≡ Some text
+  pub short : length text ≤ max_file
+
+-- a fact of told files, which stay as they were
+abbrev pub OfFiles : (Files → Type 0) → Told → Told → Type 0
+OfFiles P old new = P old.files × (new.files ≡ old.files)
+
+-- told files have no text for the word
+abbrev pub IsGone : List ℕ → List ℕ → Option Told → Type 0
+IsGone built_in word None = ⊥
+IsGone built_in word (Some told) = text_named built_in word told.files ≡ None
+
+-- the file of this name is this text, which isn't too long
+abbrev pub IsFileIn : List ℕ → List ℕ → Files → Type 0
+IsFileIn word text files = (get files word ≡ Some text) × (length text ≤ max_file)
+
+-- it is too long, and this is the answer
+abbrev pub IsLongFile : FileWord → List ℕ → Status → Files → Type 0
+IsLongFile kind word s files = (text : List ℕ) × (get files word ≡ Some text) × (max_file < length text) × (s ≡ status.Form kind 0 0)
+
+abbrev pub IsNoFile : List ℕ → Option Told → Type 0
+IsNoFile word told = IsMissing told word
+
+-- ---- a network and streams, or an answer in their place
+
+abbrev pub topo_status : TopoFault → Status
+topo_status topo.Toml = status.Form file.Net 0 1
+topo_status (topo.Field row) = status.Rules file.Net row 2
+topo_status (topo.Name row) = status.Rules file.Net row 3
+topo_status (topo.End row) = status.Rules file.Net row 4
+topo_status (topo.Range row) = status.Rules file.Net row 5
+topo_status topo.Count = status.Rules file.Net Top 6
+topo_status topo.Slots = status.Rules file.Net Top 7
+topo_status topo.Wires = status.Rules file.Net Top 8
+topo_status topo.Memory = status.Memory
+
+abbrev pub stream_status : StreamFault → Status
+stream_status stream.Toml = status.Form file.Streams 0 1
+stream_status (stream.Field row) = status.Rules file.Streams row 2
+stream_status (stream.Name row) = status.Rules file.Streams row 3
+stream_status (stream.Route row hop) = status.Rules file.Streams row 4
+stream_status (stream.Class row) = status.Rules file.Streams row 5
+stream_status (stream.Range row) = status.Rules file.Streams row 6
+stream_status (stream.Burst row) = status.Rules file.Streams row 7
+stream_status stream.Count = status.Rules file.Streams Top 8
+stream_status stream.Memory = status.Memory
+
+-- the text for the word is too long, and this is the answer
+abbrev pub IsLong : FileWord → List ℕ → List ℕ → Status → Files → Type 0
+IsLong kind built_in word s files = (text : List ℕ) × (text_named built_in word files ≡ Some text) × (max_file < length text) × (s ≡ status.Form kind 0 0)
+
+-- the word stands for a text that is this network
+abbrev pub IsNetIn : List ℕ → Network → Files → Type 0
+IsNetIn word net files = (text : List ℕ) × IsTextIn pair_network word text files × (network_of text ≡ Ok (parts_of net))
+
+-- its text is too long or has a fault, and this is the answer
+abbrev pub NetRefused : List ℕ → Status → Files → Type 0
+NetRefused word s files =
+    IsLong file.Net pair_network word s files
+    ⊎ ((text : List ℕ) × IsTextIn pair_network word text files × ((fault : TopoFault) × (network_of text ≡ Err fault) × (s ≡ topo_status fault)))
+
+-- the word stands for a text that is these streams, for the network
+abbrev pub AreStreamsIn : List ℕ → Network → Streams → Files → Type 0
+AreStreamsIn word net streams files = (text : List ℕ) × IsTextIn pair_streams word text files × (streams_of net text ≡ Ok (map row_parts streams.rows))
+
+abbrev pub StreamsRefused : List ℕ → Network → Status → Files → Type 0
+StreamsRefused word net s files =
+    IsLong file.Streams pair_streams word s files
+    ⊎ ((text : List ℕ) × IsTextIn pair_streams word text files × ((fault : StreamFault) × (streams_of net text ≡ Err fault) × (s ≡ stream_status fault)))
+
+-- why a text isn't read, or what it is to be isn't in it: this is gone, or refused so; want of memory is free
+abbrev pub InPlace : Status → (Option Told → Type 0) → (Status → Files → Type 0) → ℕ → ℕ → Option Told → Option Told → Type 0
+InPlace status.ReadFault gone refused before now old new = gone old ⊎ Rose before now
+InPlace (status.Form kind line rule) gone refused before now old new = WhereTold old new (OfFiles (refused (status.Form kind line rule)))
+InPlace (status.Rules kind row rule) gone refused before now old new = WhereTold old new (OfFiles (refused (status.Rules kind row rule)))
+InPlace status.Memory gone refused before now old new = Unit {0}
+InPlace status.Done gone refused before now old new = ⊥
+InPlace status.Words gone refused before now old new = ⊥
+InPlace status.WriteFault gone refused before now old new = ⊥
+InPlace (status.Unfit cause) gone refused before now old new = ⊥
+
+-- ---- the certificate of a network and streams
+
+abbrev pub HasLeast : Network → Streams → Type 0
+HasLeast net streams = (c : Certificate) × Least net streams c
+
+-- want of memory is no cause of its own
+abbrev pub unfit_status : Unfit → Status
+unfit_status (unfit.Overload arc) = status.Unfit (unfit.Overload arc)
+unfit_status (unfit.Cycle arcs) = status.Unfit (unfit.Cycle arcs)
+unfit_status (unfit.Large arc prio) = status.Unfit (unfit.Large arc prio)
+unfit_status (unfit.Ring arc prio need) = status.Unfit (unfit.Ring arc prio need)
+unfit_status unfit.Memory = status.Memory
+
+abbrev pub UnfitCause : Unfit → Network → List Row → Type 0
+UnfitCause (unfit.Overload arc) net rows = Cause net rows (unfit.Overload arc)
+UnfitCause (unfit.Cycle arcs) net rows = Cause net rows (unfit.Cycle arcs)
+UnfitCause (unfit.Large arc prio) net rows = Cause net rows (unfit.Large arc prio)
+UnfitCause (unfit.Ring arc prio need) net rows = Cause net rows (unfit.Ring arc prio need)
+UnfitCause unfit.Memory net rows = ⊥
+
+abbrev pub CertifiedCause : Status → Network → Streams → ℕ → ℕ → Type 0
+CertifiedCause status.Done net streams before now = HasLeast net streams
+CertifiedCause status.WriteFault net streams before now = Rose before now × HasLeast net streams
+CertifiedCause (status.Unfit cause) net streams before now = UnfitCause cause net streams.rows
+CertifiedCause status.Memory net streams before now = Unit {0}
+CertifiedCause status.Words net streams before now = ⊥
+CertifiedCause status.ReadFault net streams before now = ⊥
+CertifiedCause (status.Form kind line rule) net streams before now = ⊥
+CertifiedCause (status.Rules kind row rule) net streams before now = ⊥
+
+-- all of the text was taken and flushed
+abbrev pub TakesFlushed : List ℕ → Taken → Taken → Type 0
+TakesFlushed text old new = (new.octets ≡ old.octets ++ text) × (new.flushed ≡ true)
+
+-- the text of the least certificate, flushed, or a front of it where writing failed, and else nothing
+abbrev pub CertifiedLeaves : Status → Network → Streams → Option Taken → Option Taken → Type 0
+CertifiedLeaves status.Done net streams old new = (c : Certificate) × Least net streams c × WhereTold old new (TakesFlushed (certificate_text net streams.rows c))
+CertifiedLeaves status.WriteFault net streams old new = (c : Certificate) × Least net streams c × WhereTold old new (TakesFront (certificate_text net streams.rows c))
+CertifiedLeaves (status.Unfit cause) net streams old new = new ≡ old
+CertifiedLeaves status.Memory net streams old new = new ≡ old
+CertifiedLeaves status.Words net streams old new = new ≡ old
+CertifiedLeaves status.ReadFault net streams old new = new ≡ old
+CertifiedLeaves (status.Form kind line rule) net streams old new = new ≡ old
+CertifiedLeaves (status.Rules kind row rule) net streams old new = new ≡ old
+
+-- ---- the command
+
+-- the words stand for this network, and these streams for it
+abbrev pub AreBothIn : List ℕ → List ℕ → Network → Streams → Files → Type 0
+AreBothIn net_word streams_word net streams files = IsNetIn net_word net files × AreStreamsIn streams_word net streams files
+
+-- the network is refused; or it's read, and the streams are; or both are read, and there is no certificate
+abbrev pub RefusedIn : List ℕ → List ℕ → Status → Files → Type 0
+RefusedIn net_word streams_word s files =
+    NetRefused net_word s files
+    ⊎ ((net : Network) × IsNetIn net_word net files × StreamsRefused streams_word net s files)
+    ⊎ ((net : Network) × (streams : Streams) × AreBothIn net_word streams_word net streams files × ((cause : Unfit) × UnfitCause cause net streams.rows × (s ≡ status.Unfit cause)))
+
+-- the network's text isn't there; or it's read, and the streams' text isn't there
+abbrev pub GoneIn : List ℕ → List ℕ → Option Told → Type 0
+GoneIn net_word streams_word None = ⊥
+GoneIn net_word streams_word (Some told) =
+    (text_named pair_network net_word told.files ≡ None)
+    ⊎ ((net : Network) × IsNetIn net_word net told.files × (text_named pair_streams streams_word told.files ≡ None))
+
+-- the words stand for a network and streams that have a certificate
+abbrev pub HasBoth : List ℕ → List ℕ → Outside → Type 0
+HasBoth net_word streams_word o =
+    (net : Network) × (streams : Streams) × WhereTold o.told_before o.told_after (OfFiles (AreBothIn net_word streams_word net streams)) × HasLeast net streams
+
+-- the cause of each answer; want of memory is free
+abbrev pub CertifyingCause : Status → List ℕ → List ℕ → Outside → Type 0
+CertifyingCause status.Done net_word streams_word o = HasBoth net_word streams_word o
+CertifyingCause status.WriteFault net_word streams_word o = Rose o.sink_before o.sink_after × HasBoth net_word streams_word o
+CertifyingCause status.ReadFault net_word streams_word o = GoneIn net_word streams_word o.told_before ⊎ Rose o.shelf_before o.shelf_after
+CertifyingCause (status.Form kind line rule) net_word streams_word o = WhereTold o.told_before o.told_after (OfFiles (RefusedIn net_word streams_word (status.Form kind line rule)))
+CertifyingCause (status.Rules kind row rule) net_word streams_word o = WhereTold o.told_before o.told_after (OfFiles (RefusedIn net_word streams_word (status.Rules kind row rule)))
+CertifyingCause (status.Unfit cause) net_word streams_word o = WhereTold o.told_before o.told_after (OfFiles (RefusedIn net_word streams_word (status.Unfit cause)))
+CertifyingCause status.Memory net_word streams_word o = Unit {0}
+CertifyingCause status.Words net_word streams_word o = ⊥
+
+-- the sink took this of what the two texts give
+abbrev pub OfBoth : List ℕ → List ℕ → Outside → (Network → Streams → Type 0) → Type 0
+OfBoth net_word streams_word o Takes =
+    (net : Network) × (streams : Streams) × WhereTold o.told_before o.told_after (OfFiles (AreBothIn net_word streams_word net streams)) × Takes net streams
+
+-- What the sink took, by the answer: the text of the least certificate, flushed; a front of it; or nothing.
+abbrev pub CertifyingLeaves : Status → List ℕ → List ℕ → Outside → Type 0
+CertifyingLeaves status.Done net_word streams_word o = OfBoth net_word streams_word o (λ net streams. CertifiedLeaves status.Done net streams o.taken_before o.taken_after)
+CertifyingLeaves status.WriteFault net_word streams_word o = OfBoth net_word streams_word o (λ net streams. CertifiedLeaves status.WriteFault net streams o.taken_before o.taken_after)
+CertifyingLeaves status.ReadFault net_word streams_word o = o.taken_after ≡ o.taken_before
+CertifyingLeaves (status.Form kind line rule) net_word streams_word o = o.taken_after ≡ o.taken_before
+CertifyingLeaves (status.Rules kind row rule) net_word streams_word o = o.taken_after ≡ o.taken_before
+CertifyingLeaves (status.Unfit cause) net_word streams_word o = o.taken_after ≡ o.taken_before
+CertifyingLeaves status.Memory net_word streams_word o = o.taken_after ≡ o.taken_before
+CertifyingLeaves status.Words net_word streams_word o = o.taken_after ≡ o.taken_before
