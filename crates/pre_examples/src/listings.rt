@@ -41,7 +41,7 @@ fn seven_packets(rt: HostRuntime) -> Result<(), Fail> {
     let alloc = rt.alloc();
     let mut sink = wide_sink(alloc)?;
     let status = listed(alloc, PACKETS, &mut sink)?;
-    assert_eq!(rt; status, Status::Done);
+    assert_eq!(rt; status.number(), 0);
     assert_eq!(rt; sink.octets(), LISTING.as_bytes());
     due_listings();
     Ok(())
@@ -53,7 +53,7 @@ fn lines_that_are_skipped(rt: HostRuntime) -> Result<(), Fail> {
     let alloc = rt.alloc();
     let mut sink = wide_sink(alloc)?;
     let status = listed(alloc, "# none\r\n\n  AbcD \n", &mut sink)?;
-    assert_eq!(rt; status, Status::Done);
+    assert_eq!(rt; status.number(), 0);
     assert_eq!(rt; sink.octets(), b"0 - - nothing size\n".as_slice());
     Ok(())
 }

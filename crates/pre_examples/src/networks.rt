@@ -20,7 +20,7 @@ pub const BRIDGED: &str =
     "express_from = 4\n[[node]]\nname = \"a\"\nkind = \"station\"\n[[node]]\nname = \"m\"\nkind = \"bridge\"\nlatency = 100\n[[node]]\nname = \"b\"\nkind = \"station\"\n[[link]]\nends = [\"a\", \"m\"]\ncost = 1\nmode = \"on\"\nrings = [64, 64, 64, 64, 64, 64, 64, 64]\n[[link]]\nends = [\"m\", \"b\"]\ncost = 1\nmode = \"on\"\nrings = [64, 64, 64, 64, 64, 64, 64, 64]\n";
 
 /// Two stations, and rings of one frame each.
-const NARROW: &str =
+pub const NARROW: &str =
     "express_from = 4\n[[node]]\nname = \"a\"\nkind = \"station\"\n[[node]]\nname = \"b\"\nkind = \"station\"\n[[link]]\nends = [\"a\", \"b\"]\ncost = 1\nmode = \"on\"\nrings = [1, 1, 1, 1, 1, 1, 1, 1]\n";
 
 const STATIONS: &str =

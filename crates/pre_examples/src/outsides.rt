@@ -4,7 +4,7 @@ use crate::running::{
     EXAMPLE, EXAMPLE_TRACE, assert_status, replayed, shelf_with, wide_sink, words_of,
 };
 use pre_base::{MemoryShelf, MemorySink};
-use pre_cli::{Status, preempt};
+use pre_cli::preempt;
 use std::test::Fail;
 
 /// The first two writes take up to 7 octets each.
@@ -35,12 +35,7 @@ fn the_flush_fails(rt: HostRuntime) -> Result<(), Fail> {
 fn wrong_words(rt: HostRuntime) -> Result<(), Fail> {
     let alloc = rt.alloc();
     let usage = "usage: preempt certify, judge, replay, mpackets or drill";
-    for text in [
-        "",
-        "replay pair",
-        "replay other script",
-        "certify pair pair",
-    ] {
+    for text in ["", "replay pair", "replay other script", "certify pair"] {
         let mut shelf = shelf_with(alloc, EXAMPLE.as_bytes())?;
         let mut sink = wide_sink(alloc)?;
         let words = words_of(alloc, text)?;
@@ -73,7 +68,7 @@ fn a_read_fails(rt: HostRuntime) -> Result<(), Fail> {
         let mut sink = wide_sink(alloc)?;
         let words = words_of(alloc, "replay pair script")?;
         let status = preempt(alloc, words.as_slice(), &mut shelf, &mut sink);
-        assert_eq!(rt; status, Status::ReadFault, "at call {call}");
+        assert_eq!(rt; status.number(), 2, "at call {call}");
         assert!(rt; sink.octets().is_empty());
     }
     Ok(())

@@ -8,15 +8,15 @@ use std::alloc::Global;
 use std::test::Fail;
 
 /// An express stream, and a flow.
-const TWO_ROWS: &str =
+pub const TWO_ROWS: &str =
     "[[stream]]\nname = \"x\"\nvid = 10\nprio = 6\nroute = [\"a\", \"b\"]\nmax = 1522\nburst = 2000\nrate = 100000\n[[flow]]\nname = \"y\"\nvid = 20\nprio = 0\nroute = [\"a\", \"b\"]\nmax = 1522\n";
 
 /// The same rows by way of the bridge, with a stream of short frames.
-const BY_BRIDGE: &str =
+pub const BY_BRIDGE: &str =
     "[[stream]]\nname = \"x\"\nvid = 10\nprio = 6\nroute = [\"a\", \"m\", \"b\"]\nmax = 64\nburst = 84\nrate = 1000\n[[flow]]\nname = \"y\"\nvid = 20\nprio = 0\nroute = [\"a\", \"m\", \"b\"]\nmax = 1522\n";
 
 /// Two streams and a flow.
-const THREE_ROWS: &str =
+pub const THREE_ROWS: &str =
     "[[stream]]\nname = \"x\"\nvid = 10\nprio = 6\nroute = [\"a\", \"b\"]\nmax = 64\nburst = 84\nrate = 1000\n[[stream]]\nname = \"z\"\nvid = 11\nprio = 7\nroute = [\"a\", \"b\"]\nmax = 500\nburst = 520\nrate = 10000\n[[flow]]\nname = \"y\"\nvid = 20\nprio = 0\nroute = [\"a\", \"b\"]\nmax = 1522\n";
 
 fn read(alloc: Global, net: &str, text: &str) -> Result<Result<Streams, StreamFault>, Fail> {

@@ -1,7 +1,6 @@
 //! Whole runs and their traces.
 
 use crate::running::{EXAMPLE, EXAMPLE_TRACE, assert_trace, replayed, wide_sink};
-use pre_cli::Status;
 use std::test::Fail;
 
 #[test]
@@ -47,7 +46,7 @@ fn a_full_ring(rt: HostRuntime) -> Result<(), Fail> {
     script.push_str("until 5000\n")?;
     let mut sink = wide_sink(alloc)?;
     let status = replayed(alloc, script.as_str(), &mut sink)?;
-    assert_eq!(rt; status, Status::Done);
+    assert_eq!(rt; status.number(), 0);
     let trace = std::str::from_utf8(sink.octets())?;
     assert_eq!(rt; trace.matches("\n0 dropped a>b 6 6").count(), 6);
     assert_eq!(rt; trace.matches("0 enter a>b 6 ").count(), 64);

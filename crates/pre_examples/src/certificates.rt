@@ -1,0 +1,116 @@
+//! Certificates of networks and streams, and why there are none.
+
+use crate::networks::{BRIDGED, DIRECT, NARROW};
+use crate::running::{assert_status, wide_sink, words_of};
+use crate::streams::{BY_BRIDGE, THREE_ROWS, TWO_ROWS};
+use pre_base::{MemoryShelf, Sink};
+use pre_cli::{Status, due_certificates, preempt};
+use std::alloc::{AllocError, Global};
+use std::test::Fail;
+
+/// The built-in stream over the built-in link.
+const PAIR: &str = "certificate 1
+arc a>b 0
+port a>b 6 143 2000 0 2143 2214
+hop x 0 2000
+bound x 2131
+end
+";
+
+/// Two arcs: the second delay is one tick longer, as the burst has grown by an octet.
+const TWO_HOPS: &str = "certificate 1
+arc a>m 0
+arc m>b 1
+port a>m 6 143 84 0 227 84
+port m>b 6 143 85 0 228 85
+hop x 0 84
+hop x 1 85
+bound x 531
+end
+";
+
+/// A stream of priority 7 before one of priority 6.
+const TWO_PRIORITIES: &str = "certificate 1
+arc a>b 0
+port a>b 6 143 604 10000 754 84
+port a>b 7 143 520 0 663 526
+hop x 0 84
+hop z 0 520
+bound x 742
+bound z 651
+end
+";
+
+/// Streams that want all of an arc's time.
+const FULL: &str =
+    "[[stream]]\nname = \"x\"\nvid = 1\nprio = 6\nroute = [\"a\", \"b\"]\nmax = 64\nburst = 84\nrate = 600000\n[[stream]]\nname = \"z\"\nvid = 2\nprio = 6\nroute = [\"a\", \"b\"]\nmax = 64\nburst = 84\nrate = 400000\n";
+
+/// Certifies the streams of two files, `net` and `streams`.
+fn certified<S: Sink>(
+    alloc: Global,
+    net: &str,
+    streams: &str,
+    words: &str,
+    sink: &mut S,
+) -> Result<Status, AllocError> {
+    let mut shelf = MemoryShelf::make(alloc, &[])?;
+    shelf.put("net", net.as_bytes())?;
+    shelf.put("streams", streams.as_bytes())?;
+    let words = words_of(alloc, words)?;
+    Ok(preempt(alloc, words.as_slice(), &mut shelf, sink))
+}
+
+#[test]
+fn worked_certificates(rt: HostRuntime) -> Result<(), Fail> {
+    let alloc = rt.alloc();
+    for (net, streams, words, text) in [
+        ("", "", "certify pair pair", PAIR),
+        (DIRECT, TWO_ROWS, "certify net streams", PAIR),
+        (BRIDGED, BY_BRIDGE, "certify net streams", TWO_HOPS),
+        ("", THREE_ROWS, "certify pair streams", TWO_PRIORITIES),
+    ] {
+        let mut sink = wide_sink(alloc)?;
+        let status = certified(alloc, net, streams, words, &mut sink)?;
+        assert_eq!(rt; status.number(), 0);
+        assert_eq!(rt; sink.octets(), text.as_bytes());
+    }
+    due_certificates();
+    Ok(())
+}
+
+#[test]
+fn refusals(rt: HostRuntime) -> Result<(), Fail> {
+    let alloc = rt.alloc();
+    for (net, streams, words, number, text) in [
+        (DIRECT, FULL, "certify net streams", 6, "unfit overload 0"),
+        (
+            NARROW,
+            TWO_ROWS,
+            "certify net streams",
+            6,
+            "unfit ring 0 6 26",
+        ),
+        (
+            BRIDGED,
+            "stream = 1",
+            "certify net streams",
+            5,
+            "rules streams top 2",
+        ),
+        (
+            "node = [{}]\nlink = []",
+            "[",
+            "certify net streams",
+            5,
+            "rules net node 0 2",
+        ),
+        (DIRECT, "[", "certify net streams", 4, "form streams 0 1"),
+        (DIRECT, TWO_ROWS, "certify none streams", 2, "read fault"),
+    ] {
+        let mut sink = wide_sink(alloc)?;
+        let status = certified(alloc, net, streams, words, &mut sink)?;
+        assert_status(&rt, alloc, &status, number, text)?;
+        assert!(rt; sink.octets().is_empty());
+    }
+    Ok(())
+}
