@@ -43,7 +43,7 @@ module _ (spelled : OneSpelled) (given : OneGiven) (w : Scenario) (direct : IsDi
   step Phase.sets place happens = little (inl (omega (arith, place)))
   step (Phase.ends a) (a_lt, place) happens = little (inl (omega (arith, place, a_lt)))
   step (Phase.expiries a) (a_lt, place) happens = little (inr (omega (arith, place), omega (arith, place, a_lt)))
-  step Phase.entries place happens = entries_keep w past es t direct all happens
+  step Phase.entries place happens = entries_keep w (number (length w.net.arcs) t k) past es t direct s all happens
   step (Phase.starts a) (a_lt, place) happens = starts_right w past es t a direct (subst (λ k. AllBefore (length w.net.arcs) (number (length w.net.arcs) t k) past) place before) all happens
   step (Phase.arrivals a) (a_lt, place) happens =
       elim (what_arrives w past es t a a_lt (subst (λ k. k < moments (length w.net.arcs)) place k_lt) (subst (λ k. AllBefore (length w.net.arcs) (number (length w.net.arcs) t k) past) place before)
@@ -55,7 +55,7 @@ module _ (spelled : OneSpelled) (given : OneGiven) (w : Scenario) (direct : IsDi
 nothing_yet : (w : Scenario) → AllRight w []
 nothing_yet w = record {
   right = tt;
-  one = λ a c i j b d f at at'. absurd (cc at);
+  one = λ a i j b d f at at'. absurd (cc at);
   each = All-nil (IsDelivered w []);
   apart = λ i j d lt lt'. absurd (omega (arith, lt'));
 }

@@ -1,6 +1,6 @@
 -- A start and an arrival keep what holds of a direct run.
 use Rattle.std.proofs.Common.{ℕ, ◌≡◌, ◌≢◌, ◌⊎◌, ◌==◌, ◌&&◌, ◌+◌, ◌*◌, ◌<◌, ◌≤◌, nat_lt, Bool, true, false, List, [], ◌∷◌, ◌++◌, length, refl, sym, ◌∙◌, ap, inl, inr, arith, subst, Some, length-append}
-use Rattle.std.specs.Prelude.{slice_get, slice_index_or, option_and_then, AllPairs}
+use Rattle.std.specs.Prelude.{slice_get, slice_index_or, option_and_then, AllPairs, Contains, Option, None}
 use Rattle.std.proofs.lemmas.List.{append-nil}
 use Rattle.std.proofs.lemmas.List.Elements.{filter_map-append, All-same, All-weaker, All-push}
 use Rattle.std.proofs.lemmas.List.Quantifiers.{all_pairs_push}
@@ -13,7 +13,7 @@ use Rattle.pre_trace.specs.History.{PlainEvent, History, Begin, Ended, Arrive, D
 use Rattle.pre_trace.specs.Selected.{begin_on, arrive_on, delivery_of, what_is, frame_in}
 use Rattle.pre_trace.specs.Queries.{Begins, Ends, Arrivals, Deliveries}
 use Rattle.pre_trace.specs.Starts.{Choice, StartRule}
-use Rattle.pre_trace.specs.Comings.{frame_at}
+use Rattle.pre_trace.specs.Comings.{frame_at, hops, next_arc}
 use Rattle.pre_trace.specs.Rules.{HappensIn}
 use Rattle.pre_trace.specs.Placed.{number, AllBefore}
 use Rattle.pre_trace.specs.Deliveries.{IsDirect}
@@ -29,7 +29,9 @@ use Rattle.pre_trace.proofs.Arrived.{OneGiven}
 use Rattle.pre_trace.proofs.Spelled.{OneSpelled}
 use Rattle.pre_trace.proofs.Undamaged.{whole_arrives}
 use Rattle.pre_trace.proofs.Fronts.{BeginsRight, IsWholeBegin, IsRight}
-use Rattle.pre_trace.proofs.Coming.{BeginFacts, begins_right, begins_so, no_next}
+use Rattle.pre_trace.proofs.Coming.{BeginFacts, begins_right, begins_so}
+use Rattle.pre_trace.proofs.Routes.{one_last}
+use Rattle.pre_trace.proofs.Relays.{frame_in_is}
 use Rattle.pre_trace.proofs.Placing.{begins_arc}
 use Rattle.pre_trace.proofs.Turns.{tick_lt}
 use Rattle.pre_trace.proofs.Free.{begins_before}
@@ -77,18 +79,15 @@ module _ (w : Scenario) (past : History) (t a : ℕ) (direct : IsDirect w)
   abbrev r : Begin
   r = record { tick = t; arc = a; ord = length (Begins past a); kind = c.kind; what = c.what; from = c.from }
 
-  -- the frame didn't begin before
-  not_twice : (x i : ℕ) (b : Begin) (f : FrameNo) → slice_get (Begins past x) i ≡ Some b → b.what ≡ what.Frame f → c.what ≡ what.Frame f → ⊥
-  not_twice x i b f at is is' =
+  -- the frame didn't begin on the arc before
+  not_twice : (i : ℕ) (b : Begin) (f : FrameNo) → slice_get (Begins past a) i ≡ Some b → b.what ≡ what.Frame f → c.what ≡ what.Frame f → ⊥
+  not_twice i b f at is is' =
       let new = facts.front f is' in
-      let old = (every_at (IsWholeBegin w) (Begins past x) i b (begins_right w past x all.right) at).right f is in
-      let on : b.arc ≡ x = every_at (λ (b : Begin). b.arc ≡ x) (Begins past x) i b (begins_arc past x) at in
-      let same : x ≡ a = sym on ∙ (old.arc ∙ sym new.2.1.arc) in
-      let at' : slice_get (Begins past a) i ≡ Some b = subst (λ y. slice_get (Begins past y) i ≡ Some b) same at in
+      let old = (every_at (IsWholeBegin w) (Begins past a) i b (begins_right w past a all.right) at).right f is in
       let y = every_at (λ (b : Begin). (b.arc ≡ a) × (number (length w.net.arcs) b.tick (2 + 3 * length w.net.arcs + a) < number (length w.net.arcs) t (2 + 3 * length w.net.arcs + a))) (Begins past a) i b
-      (begins_before (length w.net.arcs) (number (length w.net.arcs) t (2 + 3 * length w.net.arcs + a)) a past before) at' in
+      (begins_before (length w.net.arcs) (number (length w.net.arcs) t (2 + 3 * length w.net.arcs + a)) a past before) at in
       let early : b.tick < t = tick_lt (moments (length w.net.arcs)) b.tick t (2 + 3 * length w.net.arcs + a) y.1 in
-      all_and (nat_lt b.tick t) (what_is b.what f.0) (b.from == 0) (is_lt b.tick t early) (ap (λ z. what_is z f.0) is ∙ is_eq f.0 f.0 refl) (is_eq b.from 0 old.from) (new.2.1.fresh i b at')
+      all_and (nat_lt b.tick t) (what_is b.what f.0) (b.from == 0) (is_lt b.tick t early) (ap (λ z. what_is z f.0) is ∙ is_eq f.0 f.0 refl) (is_eq b.from 0 old.from) (new.2.1.fresh i b at)
 
   begun_right : IsWholeBegin w r
   begun_right = record {
@@ -101,14 +100,14 @@ module _ (w : Scenario) (past : History) (t a : ℕ) (direct : IsDirect w)
       let same : Deliveries (past ++ PlainEvent.begin r ∷ []) ≡ Deliveries past = filter_map-append delivery_of past (PlainEvent.begin r ∷ []) ∙ append-nil (Deliveries past) in
       record {
         right = every-append (IsRight w) past (PlainEvent.begin r ∷ []) all.right (begun_right, tt);
-        one = λ x y i j b d f at at' is is'. elim (new_at past r b x i at) [
-          | inl old ↦ elim (new_at past r d y j at') [
-            | inl old' ↦ all.one x y i j b d f old old' is is'
-            | inr new' ↦ absurd (not_twice x i b f old is (ap (λ (z : Begin). z.what) new'.2 ∙ is'))
+        one = λ x i j b d f at at' is is'. elim (new_at past r b x i at) [
+          | inl old ↦ elim (new_at past r d x j at') [
+            | inl old' ↦ all.one x i j b d f old old' is is'
+            | inr new' ↦ absurd (not_twice i b f (subst (λ y. slice_get (Begins past y) i ≡ Some b) (sym new'.0) old) is (ap (λ (z : Begin). z.what) new'.2 ∙ is'))
           ]
-          | inr new ↦ elim (new_at past r d y j at') [
-            | inl old' ↦ absurd (not_twice y j d f old' is' (ap (λ (z : Begin). z.what) new.2 ∙ is))
-            | inr new' ↦ (sym new.0 ∙ new'.0, new.1 ∙ (ap (λ z. length (Begins past z)) (sym new.0 ∙ new'.0) ∙ sym new'.1))
+          | inr new ↦ elim (new_at past r d x j at') [
+            | inl old' ↦ absurd (not_twice j d f (subst (λ y. slice_get (Begins past y) j ≡ Some d) (sym new.0) old') is' (ap (λ (z : Begin). z.what) new.2 ∙ is))
+            | inr new' ↦ new.1 ∙ sym new'.1
           ]
         ];
         each = All-same (IsDelivered w (past ++ PlainEvent.begin r ∷ [])) (Deliveries (past ++ PlainEvent.begin r ∷ [])) (Deliveries past) same
@@ -124,11 +123,6 @@ starts_right w past es t a direct before all (inl (e, (c, (free, (i, there', fir
     subst (λ xs. AllRight w (past ++ xs)) (sym (is ∙ ap (λ x. x ∷ []) is_begin)) (start_right w past t a direct before all c (begins_so w past a t i c direct all.right there'))
 
 -- ---- an arrival
-
-frame_in_is : (x : What) (f : ℕ) → frame_in x ≡ Some f → x ≡ what.Frame (record { 0 = f })
-frame_in_is (what.Frame g) f is = let same : g.0 ≡ f = cc is in ap (λ n. what.Frame (record { 0 = n })) same
-frame_in_is what.Lldp f is = absurd (cc is)
-frame_in_is what.Nothing f is = absurd (cc is)
 
 module _ (spelled : OneSpelled) (one : OneGiven) (w : Scenario) (past : History) (t a : ℕ) (direct : IsDirect w) (all : AllRight w past) (n : ℕ) (s : Steady w n past a)
     (e : Ended) (at_e : slice_get (Ends past a) (length (Arrivals past a)) ≡ Some e) (due : e.tick + (arc w a).delay ≡ t) where
@@ -161,18 +155,28 @@ module _ (spelled : OneSpelled) (one : OneGiven) (w : Scenario) (past : History)
       let span = s.ordered.spans (length (Arrivals past a)) found.0 e found.1 at_e in
       omega (arith, right.sent, span, due)
 
-  module _ (f : ℕ) (octets : List ℕ) (frame : frame_at past a e.ord ≡ Some f) (gives : Gives (Air w past a) e.ord (Given.frame octets)) where
+  -- an arc on which a frame began is on its route
+  on_route : (x i f : ℕ) (b : Begin) → slice_get (Begins past x) i ≡ Some b → b.what ≡ what.Frame (record { 0 = f }) → Contains (hops w f) x
+  on_route x i f b at is =
+      let on : b.arc ≡ x = every_at (λ (b : Begin). b.arc ≡ x) (Begins past x) i b (begins_arc past x) at in
+      subst (Contains (hops w f)) on ((every_at (IsWholeBegin w) (Begins past x) i b (begins_right w past x all.right) at).right (record { 0 = f }) is).arc
+
+  module _ (f : ℕ) (octets : List ℕ) (frame : frame_at past a e.ord ≡ Some f) (gives : Gives (Air w past a) e.ord (Given.frame octets)) (at_last : next_arc w a f ≡ None) where
     abbrev d : Delivery
     d = record { tick = t; node = (arc w a).to.0; frame = f; octets = octets }
 
     abbrev both : History
     both = arrival t a e.ord outcome.Frame ∷ PlainEvent.deliver d ∷ []
 
+    -- its last arc is one, and it began there once
     not_delivered : (x : Delivery) → IsDelivered w past x → x.frame ≢ f
     not_delivered x is same =
         let o = is.begun in
-        let where' = all.one o.0 a o.1 (length (Arrivals past a)) o.2 found.0 (record { 0 = f }) o.3 found.1 (o.4 ∙ ap (λ n. what.Frame (record { 0 = n })) same) (carries f frame) in
-        let lt : length (Arrivals past a) < length (Arrivals past a) = subst (λ y. length (Arrivals past a) < length (Arrivals past y)) where'.0 (subst (λ i. i < length (Arrivals past o.0)) where'.1 o.5) in
+        let carries' : o.2.what ≡ what.Frame (record { 0 = f }) = o.4 ∙ ap (λ n. what.Frame (record { 0 = n })) same in
+        let none : next_arc w o.0 f ≡ None = subst (λ g. next_arc w o.0 g ≡ None) same o.6 in
+        let arc_is : o.0 ≡ a = one_last (hops w f) o.0 a (on_route o.0 o.1 f o.2 o.3 carries') (on_route a (length (Arrivals past a)) f found.0 found.1 (carries f frame)) none at_last in
+        let place : o.1 ≡ length (Arrivals past a) = all.one a o.1 (length (Arrivals past a)) o.2 found.0 (record { 0 = f }) (subst (λ y. slice_get (Begins past y) o.1 ≡ Some o.2) arc_is o.3) found.1 carries' (carries f frame) in
+        let lt : length (Arrivals past a) < length (Arrivals past a) = subst (λ y. length (Arrivals past a) < length (Arrivals past y)) arc_is (subst (λ i. i < length (Arrivals past o.0)) place o.5) in
         omega (arith, lt)
 
     arrive_more : Arrivals (past ++ both) a ≡ Arrivals past a ++ record { tick = t; arc = a; ord = e.ord; result = outcome.Frame } ∷ []
@@ -190,6 +194,7 @@ module _ (spelled : OneSpelled) (one : OneGiven) (w : Scenario) (past : History)
         ap (λ xs. slice_get xs (length (Arrivals past a))) (filter_map-append (begin_on a) past both) ∙ at_front (Begins past a) (Begins both a) (length (Arrivals past a)) found.0 found.1,
         carries f frame,
         subst (λ (xs : List Arrive). length (Arrivals past a) < length xs) (sym arrive_more) (omega (arith, length-append (Arrivals past a) (record { tick = t; arc = a; ord = e.ord; result = outcome.Frame } ∷ []))),
+        at_last,
       );
     }
 
@@ -199,7 +204,7 @@ module _ (spelled : OneSpelled) (one : OneGiven) (w : Scenario) (past : History)
         let same = λ (x : ℕ). filter_map-append (begin_on x) past both ∙ append-nil (Begins past x) in
         record {
           right = every-append (IsRight w) past both all.right (tt, (tt, tt));
-          one = λ x y i j b c g at at'. all.one x y i j b c g (ap (λ xs. slice_get xs i) (sym (same x)) ∙ at) (ap (λ xs. slice_get xs j) (sym (same y)) ∙ at');
+          one = λ x i j b c g at at'. all.one x i j b c g (ap (λ xs. slice_get xs i) (sym (same x)) ∙ at) (ap (λ xs. slice_get xs j) (sym (same x)) ∙ at');
           each = All-same (IsDelivered w (past ++ both)) (Deliveries (past ++ both)) (Deliveries past ++ d ∷ []) more
               (All-push (IsDelivered w (past ++ both)) (Deliveries past) d (All-weaker (IsDelivered w past) (IsDelivered w (past ++ both)) (grown w past both) (Deliveries past) all.each) is_delivered);
           apart = subst (AllPairs (λ (x : Delivery) (y : Delivery). x.frame ≢ y.frame)) (sym more)
@@ -207,9 +212,15 @@ module _ (spelled : OneSpelled) (one : OneGiven) (w : Scenario) (past : History)
         }
 
   pub arrival_right : (r : Outcome) (es : History) → WithDelivery w past t a e.ord r es → AllRight w (past ++ es)
-  arrival_right outcome.Frame es (f, octets, frame, gives, is) =
-      let es_is : es ≡ both f octets frame gives = is ∙ ap (λ next. arrival t a e.ord outcome.Frame ∷ delivered t (arc w a).to.0 f octets next) (no_next w direct a f) in
-      subst (λ xs. AllRight w (past ++ xs)) (sym es_is) (delivery_right f octets frame gives)
+  arrival_right outcome.Frame es (f, octets, frame, gives, is) = go (next_arc w a f) refl
+    where
+      go : (next : Option ℕ) → next_arc w a f ≡ next → AllRight w (past ++ es)
+      go None none =
+          let es_is : es ≡ both f octets frame gives none = is ∙ ap (λ next. arrival t a e.ord outcome.Frame ∷ delivered t (arc w a).to.0 f octets next) none in
+          subst (λ xs. AllRight w (past ++ xs)) (sym es_is) (delivery_right f octets frame gives none)
+      go (Some b) more =
+          let es_is : es ≡ arrival t a e.ord outcome.Frame ∷ [] = is ∙ ap (λ next. arrival t a e.ord outcome.Frame ∷ delivered t (arc w a).to.0 f octets next) more in
+          subst (λ xs. AllRight w (past ++ xs)) (sym es_is) (nothing_much w past (arrival t a e.ord outcome.Frame ∷ []) all (tt, tt))
   arrival_right outcome.Lost es is = subst (λ xs. AllRight w (past ++ xs)) (sym is) (nothing_much w past (arrival t a e.ord outcome.Lost ∷ []) all (tt, tt))
   arrival_right outcome.Lldp es is = subst (λ xs. AllRight w (past ++ xs)) (sym is) (nothing_much w past (arrival t a e.ord outcome.Lldp ∷ []) all (tt, tt))
   arrival_right outcome.Part es is = subst (λ xs. AllRight w (past ++ xs)) (sym is) (nothing_much w past (arrival t a e.ord outcome.Part ∷ []) all (tt, tt))

@@ -1,6 +1,6 @@
 -- What stands at the front of a ring entered it, and didn't begin before.
 use Rattle.std.proofs.Common.{ℕ, zero, suc, ◌≡◌, ◌==◌, ◌&&◌, ◌||◌, not, nat_lt, nat_le, ◌<◌, ◌≤◌, Bool, true, false, List, [], ◌∷◌, length, refl, sym, ◌∙◌, ap, arith, subst, Some, None, map, filter}
-use Rattle.std.specs.Prelude.{if◌then◌else◌, slice_get}
+use Rattle.std.specs.Prelude.{if◌then◌else◌, slice_get, Contains}
 use Rattle.std.specs.List.{list_any, AllByRecursion as Every}
 use Rattle.std.proofs.lemmas.Bool.Decides.{nat_tests}
 use Rattle.pre_base.specs.declared.numbers.FrameNo.{FrameNo}
@@ -11,21 +11,21 @@ use Rattle.pre_trace.specs.Scenario.{Scenario, row, send}
 use Rattle.pre_trace.specs.History.{PlainEvent, History, Begin, Entry}
 use Rattle.pre_trace.specs.Selected.{RingEntry, entry_on, what_is}
 use Rattle.pre_trace.specs.Queries.{Begins, Entries, begun_before, Waiting}
-use Rattle.pre_trace.specs.Comings.{first_arc}
+use Rattle.pre_trace.specs.Comings.{hops}
 use Rattle.pre_trace.proofs.Lists.{every_selected, every_at}
 
--- a frame that enters is of the script, and does so at its first arc, in its ring, not before it is sent
+-- a frame that enters is of the script, and does so on its route, in its ring, not before it is sent
 pub record EntersRight (w : Scenario) (e : Entry) : Type 0 where
-  pub arc : e.arc ≡ first_arc w e.frame
+  pub arc : Contains (hops w e.frame) e.arc
   pub prio : e.prio ≡ (row w e.frame).prio
   pub sent : (send w e.frame).send.tick.0 ≤ e.tick
   pub known : e.frame < length w.script.sends
 
--- a frame that begins goes whole, on its first arc, not before it is sent
+-- a frame that begins goes whole, on its route, not before it is sent
 pub record BeginsRight (w : Scenario) (b : Begin) (f : ℕ) : Type 0 where
   pub kind : b.kind ≡ kind.Express
   pub from : b.from ≡ 0
-  pub arc : b.arc ≡ first_arc w f
+  pub arc : Contains (hops w f) b.arc
   pub sent : (send w f).send.tick.0 ≤ b.tick
   pub known : f < length w.script.sends
 
@@ -48,7 +48,7 @@ IsRight w (PlainEvent.end e) = Unit {0}
 
 -- what a ring on arc a of priority p holds
 pub record RingRight (w : Scenario) (a p : ℕ) (r : RingEntry) : Type 0 where
-  pub arc : r.entered ≡ true → a ≡ first_arc w r.frame
+  pub arc : r.entered ≡ true → Contains (hops w r.frame) a
   pub prio : r.entered ≡ true → p ≡ (row w r.frame).prio
   pub sent : r.entered ≡ true → (send w r.frame).send.tick.0 ≤ r.tick
   pub known : r.entered ≡ true → r.frame < length w.script.sends
@@ -77,7 +77,7 @@ ring_right w a p (PlainEvent.enter e) r right is = go ((e.arc == a) && (e.prio =
         let prio_is : e.prio ≡ p = grind (arith, nat_tests, parts.1) in
         let made : RingEntry = record { tick = e.tick; frame = e.frame; entered = true } in
         let same : made ≡ r = cc at in
-        subst (RingRight w a p) same (record { arc = λ yes. sym arc_is ∙ right.arc; prio = λ yes. sym prio_is ∙ right.prio; sent = λ yes. right.sent; known = λ yes. right.known })
+        subst (RingRight w a p) same (record { arc = λ yes. subst (Contains (hops w e.frame)) arc_is right.arc; prio = λ yes. sym prio_is ∙ right.prio; sent = λ yes. right.sent; known = λ yes. right.known })
 ring_right w a p (PlainEvent.dropped e) r right is = dropped_right w a p e r ((e.arc == a) && (e.prio == p)) is
 ring_right w a p (PlainEvent.set t b v) r right is = absurd (cc is)
 ring_right w a p (PlainEvent.begin b) r right is = absurd (cc is)
@@ -114,10 +114,11 @@ none_of {X} test (y ∷ ys) (suc i) x none at = none_of test ys i x (second (tes
 
 -- a frame at the front of a ring
 pub record AtFront (w : Scenario) (h : History) (a p t f : ℕ) : Type 0 where
-  pub arc : a ≡ first_arc w f
+  pub arc : Contains (hops w f) a
   pub prio : p ≡ (row w f).prio
   pub sent : (send w f).send.tick.0 ≤ t
   pub known : f < length w.script.sends
+  pub entry : (i : ℕ) × (r : RingEntry) × (slice_get (Entries h a p) i ≡ Some r) × (r.frame ≡ f)
   pub fresh : (i : ℕ) (b : Begin) → slice_get (Begins h a) i ≡ Some b → (nat_lt b.tick t && what_is b.what f && (b.from == 0)) ≡ false
 
 pub at_front_of : (w : Scenario) (h : History) (a p t f : ℕ) (behind : List ℕ) → Every (IsRight w) h → Waiting h a p t ≡ f ∷ behind → AtFront w h a p t f
@@ -135,6 +136,7 @@ at_front_of w h a p t f behind right waits =
       prio = ring.prio early.0;
       sent = omega (arith, by, sent);
       known = ring.known early.0;
+      entry = (o.0, r, o.2, refl);
       fresh = λ i b at. none_of (λ b. nat_lt b.tick t && what_is b.what r.frame && (b.from == 0)) (Begins h a) i b (not_true (begun_before h a t r.frame) test.1) at;
     })
   where

@@ -11,26 +11,25 @@ use Rattle.pre_trace.specs.Moments.{moments}
 use Rattle.pre_trace.specs.History.{PlainEvent, History, Begin, Arrive, Delivery}
 use Rattle.pre_trace.specs.Selected.{begin_on, arrive_on, delivery_of}
 use Rattle.pre_trace.specs.Queries.{Begins, Arrivals, Deliveries, Waiting}
-use Rattle.pre_trace.specs.Comings.{Coming, Comings, EntriesOf, entry_event, entry_for}
+use Rattle.pre_trace.specs.Comings.{Coming, Comings, EntriesOf, entry_event, entry_for, next_arc}
 use Rattle.pre_trace.specs.Placed.{number, IsAt}
 use Rattle.pre_trace.specs.Deliveries.{IsDirect}
 use Rattle.pre_trace.proofs.Lists.{every-append, every_weaker, none_selected, at_front}
 use Rattle.pre_trace.proofs.Placing.{same_place}
+use Rattle.pre_trace.proofs.Steady.{Steady}
 use Rattle.pre_trace.proofs.Coming.{entries_right}
 use Rattle.pre_trace.proofs.Fronts.{IsRight}
 
--- each mPacket that carries octets of a frame is the only one
+-- each mPacket that carries octets of a frame is the only one on its arc
 abbrev pub OneBegin : Scenario → History → Type 0
-OneBegin w h =
-    (a c i j : ℕ) (b d : Begin) (f : FrameNo) → slice_get (Begins h a) i ≡ Some b → slice_get (Begins h c) j ≡ Some d → b.what ≡ what.Frame f → d.what ≡ what.Frame f
-    → (a ≡ c) × (i ≡ j)
+OneBegin w h = (a i j : ℕ) (b d : Begin) (f : FrameNo) → slice_get (Begins h a) i ≡ Some b → slice_get (Begins h a) j ≡ Some d → b.what ≡ what.Frame f → d.what ≡ what.Frame f → i ≡ j
 
--- a delivery is of a frame that began and arrived
+-- a delivery is of a frame that began and arrived on the last arc of its route
 pub record IsDelivered (w : Scenario) (h : History) (d : Delivery) : Type 0 where
   pub known : d.frame < length w.script.sends
   pub octets : d.octets ≡ FrameOf w d.frame
   pub sent : (send w d.frame).send.tick.0 ≤ d.tick
-  pub begun : (a i : ℕ) × (b : Begin) × (slice_get (Begins h a) i ≡ Some b) × (b.what ≡ what.Frame (record { 0 = d.frame })) × (i < length (Arrivals h a))
+  pub begun : (a i : ℕ) × (b : Begin) × (slice_get (Begins h a) i ≡ Some b) × (b.what ≡ what.Frame (record { 0 = d.frame })) × (i < length (Arrivals h a)) × (next_arc w a d.frame ≡ None)
 
 pub record AllRight (w : Scenario) (h : History) : Type 0 where
   pub right : Every (IsRight w) h
@@ -52,6 +51,7 @@ grown w past es d is =
         ap (λ xs. slice_get xs o.1) (filter_map-append (begin_on o.0) past es) ∙ at_front (Begins past o.0) (Begins es o.0) o.1 o.2 o.3,
         o.4,
         subst (λ (xs : List Arrive). o.1 < length xs) (sym (filter_map-append (arrive_on o.0) past es)) (omega (arith, o.5, length-append (Arrivals past o.0) (Arrivals es o.0))),
+        o.6,
       );
     }
 
@@ -61,7 +61,7 @@ keep w past es all right begins none =
     let same : Deliveries (past ++ es) ≡ Deliveries past = filter_map-append delivery_of past es ∙ (ap (λ xs. Deliveries past ++ xs) none ∙ append-nil (Deliveries past)) in
     record {
       right = every-append (IsRight w) past es all.right right;
-      one = λ a c i j b d f at at'. all.one a c i j b d f (ap (λ xs. slice_get xs i) (sym (begins a)) ∙ at) (ap (λ xs. slice_get xs j) (sym (begins c)) ∙ at');
+      one = λ a i j b d f at at'. all.one a i j b d f (ap (λ xs. slice_get xs i) (sym (begins a)) ∙ at) (ap (λ xs. slice_get xs j) (sym (begins a)) ∙ at');
       each = All-same (IsDelivered w (past ++ es)) (Deliveries (past ++ es)) (Deliveries past) same
           (All-weaker (IsDelivered w past) (IsDelivered w (past ++ es)) (grown w past es) (Deliveries past) all.each);
       apart = subst (AllPairs (λ (d : Delivery) (e : Delivery). d.frame ≢ e.frame)) (sym same) all.apart;
@@ -149,10 +149,11 @@ entries_little w t h (c ∷ cs) = (go (length (Waiting h c.arc (row w c.frame).p
     go true = (refl, λ a. refl)
     go false = (refl, λ a. refl)
 
-pub entries_keep : (w : Scenario) (past es : History) (t : ℕ) → IsDirect w → AllRight w past → es ≡ EntriesOf w t past (Comings w past t) → AllRight w (past ++ es)
-entries_keep w past es t direct all is =
+pub entries_keep : (w : Scenario) (n : ℕ) (past es : History) (t : ℕ) → IsDirect w → ((a : ℕ) → a < length w.net.arcs → Steady w n past a) → AllRight w past
+    → es ≡ EntriesOf w t past (Comings w past t) → AllRight w (past ++ es)
+entries_keep w n past es t direct s all is =
     let little = entries_little w t past (Comings w past t) in
-    subst (λ xs. AllRight w (past ++ xs)) (sym is) (keep w past (EntriesOf w t past (Comings w past t)) all (entries_right w past t direct)
+    subst (λ xs. AllRight w (past ++ xs)) (sym is) (keep w past (EntriesOf w t past (Comings w past t)) all (entries_right w n past t direct all.right s)
     (λ a. filter_map-append (begin_on a) past (EntriesOf w t past (Comings w past t))
     ∙ (ap (λ xs. Begins past a ++ xs) (none_selected (begin_on a) (EntriesOf w t past (Comings w past t)) (every_weaker (λ e. (delivery_of e ≡ None) × ((a : ℕ) → begin_on a e ≡ None)) (λ e. begin_on a e ≡ None) (λ e x. x.1 a) (EntriesOf w t past (Comings w past t)) little)) ∙ append-nil (Begins past a)))
     (none_selected delivery_of (EntriesOf w t past (Comings w past t)) (every_weaker (λ e. (delivery_of e ≡ None) × ((a : ℕ) → begin_on a e ≡ None)) (λ e. delivery_of e ≡ None) (λ e x. x.0) (EntriesOf w t past (Comings w past t)) little)))

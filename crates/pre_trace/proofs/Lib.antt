@@ -19,6 +19,8 @@ pub mod InOrder
 pub mod Spelled
 pub mod Fronts
 pub mod Undamaged
+pub mod Routes
+pub mod Relays
 pub mod Coming
 pub mod Keeping
 pub mod Delivering

@@ -22,8 +22,7 @@ use Rattle.pre_trace.specs.Examples.{first_send, SendsOneFrame, entered, first_b
 use Rattle.pre_trace.proofs.Spelled.{OneSpelled}
 use Rattle.pre_trace.proofs.Undamaged.{user_frame, whole_arrives}
 use Rattle.pre_trace.proofs.Fronts.{IsRight, EntersRight, BeginsRight, IsWholeBegin}
-use Rattle.pre_trace.proofs.Coming.{no_next}
-use Rattle.pre_trace.proofs.PairFacts.{SendsAtStart, cost_one, far_end, first_ab, prio_six, direct, no_delay, next, idle}
+use Rattle.pre_trace.proofs.PairFacts.{SendsAtStart, cost_one, far_end, first_ab, on_ab, no_next, prio_six, direct, no_delay, next, idle}
 use Rattle.pre_trace.proofs.PairFacts as facts
 use Rattle.pre_script.specs.declared.scripts.SendLine.{SendLine}
 use Rattle.pre_trace.specs.Scenario.{send, no_send}
@@ -80,14 +79,14 @@ module _ (w : Scenario) (s : SendsOneFrame w) where
   ended = entered ∷ PlainEvent.begin first_begin ∷ PlainEvent.ended (first_end w) ∷ []
 
   enters : EntersRight w (record { tick = 0; arc = 0; prio = 6; frame = 0 })
-  enters = record { arc = sym (first_ab w (from_one w s) 0); prio = sym (prio_six w (from_one w s) 0); sent = omega (arith, tick_is); known = omega (arith, one_send) }
+  enters = record { arc = on_ab w (from_one w s) 0; prio = sym (prio_six w (from_one w s) 0); sent = omega (arith, tick_is); known = omega (arith, one_send) }
 
   begins : IsWholeBegin w first_begin
   begins = record {
     whole = refl;
     right = λ f is.
         let zero_is : 0 ≡ f.0 = cc is in
-        subst (BeginsRight w first_begin) zero_is (record { kind = refl; from = refl; arc = sym (first_ab w (from_one w s) 0); sent = omega (arith, tick_is); known = omega (arith, one_send) });
+        subst (BeginsRight w first_begin) zero_is (record { kind = refl; from = refl; arc = on_ab w (from_one w s) 0; sent = omega (arith, tick_is); known = omega (arith, one_send) });
   }
 
   begun_right : Every (IsRight w) begun
@@ -192,7 +191,7 @@ module _ (w : Scenario) (s : SendsOneFrame w) where
         let now : 72 + (arc w 0).delay ≡ 72 = omega (arith, no_delay w (from_one w s) 0) in
         let result : outcome.Frame ≡ (if is_lldp_frame (FrameOf w 0) then outcome.Lldp else outcome.Frame) = ap (λ (b : Bool). if b then outcome.Lldp else outcome.Frame) (sym (user_frame w 0)) in
         let events : arrived ∷ delivery w ∷ [] ≡ arrived ∷ delivered 72 (arc w 0).to.0 0 (FrameOf w 0) None = ap (λ n. arrived ∷ PlainEvent.deliver (record { tick = 72; node = n; frame = 0; octets = FrameOf w 0 }) ∷ []) (sym (far_end w (from_one w s))) in
-        let here = ap (λ o. arrived ∷ delivered 72 (arc w 0).to.0 0 (FrameOf w 0) o) (sym (no_next w (direct w (from_one w s)) 0 0)) in
+        let here = ap (λ o. arrived ∷ delivered 72 (arc w 0).to.0 0 (FrameOf w 0) o) (sym (no_next w (from_one w s) 0 0)) in
         (arrived ∷ delivery w ∷ [], [], inl (now, (outcome.Frame, inr (inl (Given.frame (FrameOf w 0), gives_frame, result)), (0, FrameOf w 0, refl, gives_frame, events ∙ here))), refl, refl)
 
     pub body_legal : LegalUpTo w 50010 (one_frame_body w)

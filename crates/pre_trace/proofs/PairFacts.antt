@@ -9,7 +9,14 @@ use Rattle.pre_streams.specs.Pair.{pair_row}
 use Rattle.pre_trace.specs.Scenario.{Scenario, arc, row, send, no_arc, no_row, FrameOf}
 use Rattle.pre_trace.specs.Moments.{Phase, Moment, moment_at, phase_at}
 use Rattle.pre_trace.specs.History.{History}
-use Rattle.pre_trace.specs.Comings.{hops, first_arc}
+use Rattle.pre_trace.specs.Comings.{Coming, hops, first_arc, next_arc, after, relayed, frame_at}
+use Rattle.std.specs.Prelude.{if◌then◌else◌, Contains, flat_map, option_map, option_and_then}
+use Rattle.std.proofs.Common.{◌==◌, ◌&&◌, Bool, true, false, Option, None, filter_map}
+use Rattle.pre_trace.specs.Scenario.{latency}
+use Rattle.pre_trace.specs.History.{Arrive}
+use Rattle.pre_trace.specs.Selected.{is_frame_result}
+use Rattle.pre_trace.specs.Queries.{Arrivals}
+use Rattle.pre_trace.proofs.Lists.{every_placed, none_selected}
 use Rattle.pre_trace.specs.Rules.{HappensIn, Happens}
 use Rattle.pre_trace.specs.Legal.{LegalUpTo}
 use Rattle.pre_trace.specs.Deliveries.{IsDirect, IsPlain}
@@ -65,6 +72,32 @@ module _ (w : Scenario) (s : SendsAtStart w) where
   pub first_ab : (f : ℕ) → first_arc w f ≡ 0
   first_ab f = ap (λ (xs : List ℕ). unwrap_or (slice_get xs 0) 0) (hops_ab f)
 
+  pub on_ab : (f : ℕ) → Contains (hops w f) 0
+  on_ab f = subst (λ xs. Contains xs 0) (sym (hops_ab f)) (0, omega arith, refl)
+
+  -- no frame goes on behind an arc, and so none is relayed
+  pub no_next : (a f : ℕ) → next_arc w a f ≡ None
+  no_next a f = ap (after a) (hops_ab f) ∙ go (0 == a)
+    where
+      go : (b : Bool) → ◌≡◌ {A = Option ℕ} (if b then None else None) None
+      go true = refl
+      go false = refl
+
+  none_relayed : (past : History) (t a : ℕ) (x : Arrive) → relayed w past t a x ≡ None
+  none_relayed past t a x = go (is_frame_result x.result && (x.tick + latency w a == t)) (frame_at past a x.ord)
+    where
+      go : (b : Bool) (o : Option ℕ) → (if b then option_and_then {U = Coming} (λ f. option_map (λ c. record { arc = c; frame = f }) (next_arc w a f)) o else None) ≡ None
+      go false o = refl
+      go true None = refl
+      go true (Some f) = ap (option_map {U = Coming} (λ c. record { arc = c; frame = f })) (no_next a f)
+
+  pub no_relays : (past : History) (t : ℕ) (arcs : List ℕ) → flat_map (λ a. filter_map (relayed w past t a) (Arrivals past a)) arcs ≡ []
+  no_relays past t [] = refl
+  no_relays past t (a ∷ arcs) =
+      ap (λ (xs : List Coming). xs ++ flat_map (λ a. filter_map (relayed w past t a) (Arrivals past a)) arcs)
+      (none_selected (relayed w past t a) (Arrivals past a) (every_placed (λ x. relayed w past t a x ≡ None) (Arrivals past a) (λ i x at. none_relayed past t a x)))
+      ∙ no_relays past t arcs
+
   pub prio_six : (f : ℕ) → (row w f).prio ≡ 6
   prio_six f = ap (λ (r : Row). r.prio) (row_x f)
 
@@ -73,7 +106,8 @@ module _ (w : Scenario) (s : SendsAtStart w) where
 
   pub direct : IsDirect w
   direct = record {
-    hops = λ f. omega (arith, ap length (hops_ab f));
+    routes = λ f lt. omega (arith, ap length (hops_ab f));
+    once = λ f lt i j d less within. absurd (omega (arith, less, within, ap length (hops_ab f)));
     whole = λ f lt low. absurd (omega (arith, low, prio_six f, s.net.express_from));
     losses = s.losses;
     damages = s.damages;

@@ -15,8 +15,8 @@ use Rattle.pre_trace.specs.Comings.{Coming, Comings, EntriesOf, sends_from, belo
 use Rattle.pre_trace.specs.Rules.{Each, OneOrNone, EndDue, Arriving, HappensIn}
 use Rattle.pre_trace.specs.Examples.{first_begin, frame_begin}
 use Rattle.pre_trace.proofs.Fronts.{IsRight}
-use Rattle.pre_trace.proofs.Coming.{no_run, no_relays}
-use Rattle.pre_trace.proofs.PairFacts.{SendsAtStart, no_delay, no_talks, cost_one, frame_size, direct}
+use Rattle.pre_trace.proofs.Coming.{no_run}
+use Rattle.pre_trace.proofs.PairFacts.{SendsAtStart, no_delay, no_talks, cost_one, frame_size, no_relays}
 
 each_empty : {X : Type 0} (R : X → List PlainEvent → Type 0) (xs : List X) → Every (λ x. R x []) xs → Each R xs []
 each_empty R [] none = refl
@@ -63,7 +63,7 @@ module _ (w : Scenario) (s : SendsAtStart w) where
       go (e ∷ es) (here, more) = (inr ((λ due. here (omega (arith, due, no_delay w s a))), refl), go es more)
 
   pub comings_are : (h : History) (t : ℕ) → Comings w h t ≡ sends_from w t 0 w.script.sends
-  comings_are h t = ap (λ (xs : List Coming). xs ++ sends_from w t 0 w.script.sends) (no_relays w h t (direct w s) (below (length w.net.arcs)))
+  comings_are h t = ap (λ (xs : List Coming). xs ++ sends_from w t 0 w.script.sends) (no_relays w s h t (below (length w.net.arcs)))
 
   pub quiet_entries : (h : History) (t : ℕ) → 0 < t → HappensIn w h t Phase.entries []
   unfolding HappensIn

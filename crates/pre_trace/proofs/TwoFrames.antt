@@ -24,9 +24,8 @@ use Rattle.pre_trace.specs.Examples.{first_send, second_send, SendsTwoFrames, en
 use Rattle.pre_trace.proofs.Lists.{any_at, found_at}
 use Rattle.pre_trace.proofs.Free.{packet_at}
 use Rattle.pre_trace.proofs.Fronts.{IsRight, EntersRight, BeginsRight, IsWholeBegin}
-use Rattle.pre_trace.proofs.Coming.{no_next}
 use Rattle.pre_trace.proofs.Undamaged.{user_frame}
-use Rattle.pre_trace.proofs.PairFacts.{SendsAtStart, cost_one, far_end, first_ab, prio_six, direct, no_delay, frame_size}
+use Rattle.pre_trace.proofs.PairFacts.{SendsAtStart, cost_one, far_end, first_ab, on_ab, no_next, prio_six, direct, no_delay, frame_size}
 use Rattle.pre_trace.proofs.Quiet.{selected, comings_are, not_due}
 
 pub from_two : (w : Scenario) → SendsTwoFrames w → SendsAtStart w
@@ -123,7 +122,7 @@ module _ (w : Scenario) (s : SendsTwoFrames w) where
   size_of f lt = frame_size w at f (known f lt)
 
   enters : (f : ℕ) → f < 2 → EntersRight w (record { tick = 0; arc = 0; prio = 6; frame = f })
-  enters f lt = let tick = at.tick f in record { arc = sym (first_ab w at f); prio = sym (prio_six w at f); sent = omega (arith, tick); known = known f lt }
+  enters f lt = let tick = at.tick f in record { arc = on_ab w at f; prio = sym (prio_six w at f); sent = omega (arith, tick); known = known f lt }
 
   begins : (t ord f : ℕ) → f < 2 → IsWholeBegin w (frame_begin t ord f)
   begins t ord f lt = record {
@@ -131,7 +130,7 @@ module _ (w : Scenario) (s : SendsTwoFrames w) where
     right = λ g is.
         let tick = at.tick f in
         let same : f ≡ g.0 = cc is in
-        subst (BeginsRight w (frame_begin t ord f)) same (record { kind = refl; from = refl; arc = sym (first_ab w at f); sent = omega (arith, tick); known = known f lt });
+        subst (BeginsRight w (frame_begin t ord f)) same (record { kind = refl; from = refl; arc = on_ab w at f; sent = omega (arith, tick); known = known f lt });
   }
 
   pub begun_right : Every (IsRight w) begun
@@ -274,5 +273,5 @@ module _ (w : Scenario) (s : SendsTwoFrames w) where
       let now : e.tick + (arc w 0).delay ≡ t = omega (arith, tick, no_delay w at 0) in
       let result : outcome.Frame ≡ (if is_lldp_frame (FrameOf w f) then outcome.Lldp else outcome.Frame) = ap (λ (b : Bool). if b then outcome.Lldp else outcome.Frame) (sym (user_frame w f)) in
       let events : frame_arrives t ord ∷ frame_delivery w t f ∷ [] ≡ frame_arrives t ord ∷ delivered t (arc w 0).to.0 f (FrameOf w f) None = ap (λ n. frame_arrives t ord ∷ PlainEvent.deliver (record { tick = t; node = n; frame = f; octets = FrameOf w f }) ∷ []) (sym (far_end w at)) in
-      let here = ap (λ o. frame_arrives t ord ∷ delivered t (arc w 0).to.0 f (FrameOf w f) o) (sym (no_next w (direct w at) 0 f)) in
+      let here = ap (λ o. frame_arrives t ord ∷ delivered t (arc w 0).to.0 f (FrameOf w f) o) (sym (no_next w at 0 f)) in
       inl (now, (outcome.Frame, subst (λ i. Result (Air w h 0) i outcome.Frame) (sym ord_is) (inr (inl (Given.frame (FrameOf w f), gives, result))), subst (λ i. WithDelivery w h t 0 i outcome.Frame (frame_arrives t ord ∷ frame_delivery w t f ∷ [])) (sym ord_is) (f, FrameOf w f, carries, gives, events ∙ here)))

@@ -1,16 +1,19 @@
--- Runs in which each frame goes whole over one arc and arrives as it was sent, and what their deliveries say.
-use Rattle.std.specs.Prelude.{ℕ, ◌<◌, ◌≤◌, ◌≡◌, ◌≢◌, [], length, All, AllPairs}
+-- Runs in which each frame goes whole over each arc of its route and arrives as it was sent: what their deliveries say,
+-- and that a frame comes to a ring of each arc once.
+use Rattle.std.specs.Prelude.{ℕ, ◌<◌, ◌≤◌, ◌≡◌, ◌≢◌, false, List, [], length, All, AllPairs, Contains}
 use Rattle.pre_topo.specs.declared.arcs.Mode.TheVariants as mode
 use Rattle.pre_trace.specs.Scenario.{Scenario, arc, row, send, FrameOf}
 use Rattle.pre_trace.specs.History.{History}
-use Rattle.pre_trace.specs.Queries.{Deliveries}
-use Rattle.pre_trace.specs.Comings.{hops, first_arc}
+use Rattle.pre_trace.specs.Selected.{what_is}
+use Rattle.pre_trace.specs.Queries.{Begins, Entries, Deliveries}
+use Rattle.pre_trace.specs.Comings.{Coming, hops}
 
 pub record IsDirect (w : Scenario) : Type 0 where
-  -- no route has a second arc
-  pub hops : (f : ℕ) → length (hops w f) ≤ 1
-  -- a preemptable frame takes an arc that never preempts
-  pub whole : (f : ℕ) → f < length w.script.sends → (row w f).prio < w.net.express_from → (arc w (first_arc w f)).mode ≡ mode.Off
+  -- each frame has a route, which takes no arc twice
+  pub routes : (f : ℕ) → f < length w.script.sends → 1 ≤ length (hops w f)
+  pub once : (f : ℕ) → f < length w.script.sends → AllPairs (λ a b. a ≢ b) (hops w f)
+  -- a preemptable frame takes arcs that never preempt
+  pub whole : (f : ℕ) → f < length w.script.sends → (row w f).prio < w.net.express_from → All (λ a. (arc w a).mode ≡ mode.Off) (hops w f)
   -- no mPacket is lost or damaged
   pub losses : w.script.losses ≡ []
   pub damages : w.script.damages ≡ []
@@ -23,6 +26,16 @@ pub record DeliversOnce (w : Scenario) (h : History) : Type 0 where
   pub octets : All (λ d. d.octets ≡ FrameOf w d.frame) (Deliveries h)
   pub sent : All (λ d. (send w d.frame).send.tick.0 ≤ d.tick) (Deliveries h)
   pub once : AllPairs (λ d e. d.frame ≢ e.frame) (Deliveries h)
+
+-- These frames of the script come to rings on their routes for the first time.
+pub record ComeOnce (w : Scenario) (past : History) (cs : List Coming) : Type 0 where
+  pub known : All (λ c. c.frame < length w.script.sends) cs
+  pub onroute : All (λ c. Contains (hops w c.frame) c.arc) cs
+  -- none of them began on that arc before, entered one of its rings or was dropped at it
+  pub unbegun : All (λ c. All (λ b. what_is b.what c.frame ≡ false) (Begins past c.arc)) cs
+  pub uncome : All (λ c. (p : ℕ) → All (λ e. e.frame ≢ c.frame) (Entries past c.arc p)) cs
+  -- no two of them are one frame on one arc
+  pub apart : AllPairs (λ c d. c.arc ≡ d.arc → c.frame ≢ d.frame) cs
 
 -- A direct run in which only whole frames of the script are sent.
 pub record IsPlain (w : Scenario) : Type 0 where
