@@ -1,22 +1,20 @@
 -- In a direct run frames come to rings on their routes, and begin whole.
-use Rattle.std.proofs.Common.{ℕ, zero, suc, ◌≡◌, ◌≢◌, ◌==◌, ◌&&◌, ◌+◌, ◌<◌, ◌≤◌, nat_lt, Bool, true, false, List, [], ◌∷◌, ◌++◌, length, refl, sym, ◌∙◌, ap, inl, inr, arith, subst, Option, Some, None, map, filter, filter_map}
-use Rattle.std.specs.Prelude.{if◌then◌else◌, slice_get, slice_index_or, flat_map, option_map, option_and_then}
+use Rattle.std.proofs.Common.{ℕ, ◌≡◌, ◌≢◌, ◌==◌, ◌<◌, ◌≤◌, nat_lt, Bool, true, false, List, [], ◌∷◌, ◌++◌, length, refl, sym, ◌∙◌, ap, inl, inr, arith, subst, Some, None, map, filter}
+use Rattle.std.specs.Prelude.{if◌then◌else◌, slice_get}
 use Rattle.std.specs.List.{AllByRecursion as Every}
-use Rattle.std.proofs.lemmas.Bool.Decides.{nat_tests}
 use Rattle.pre_base.specs.declared.numbers.FrameNo.{FrameNo}
 use Rattle.pre_topo.specs.declared.arcs.Mode.TheVariants as mode
-use Rattle.pre_script.specs.declared.scripts.SendLine.{SendLine}
 use Rattle.pre_mpacket.specs.declared.packets.Kind.{Kind}
 use Rattle.pre_mpacket.specs.declared.packets.Kind.TheVariants as kind
 use Rattle.pre_mpacket.specs.Arrivals.{is_fragment, is_start}
 use Rattle.pre_trace.specs.declared.events.What.TheVariants as what
-use Rattle.pre_trace.specs.Scenario.{Scenario, arc, row, send, no_send, capacity, latency}
-use Rattle.pre_trace.specs.History.{PlainEvent, History, Begin, Arrive}
-use Rattle.pre_trace.specs.Selected.{begin_on, frame_number, is_frame_result, from_last}
+use Rattle.pre_trace.specs.Scenario.{Scenario, arc, row, send, capacity}
+use Rattle.pre_trace.specs.History.{PlainEvent, History, Begin}
+use Rattle.pre_trace.specs.Selected.{begin_on, frame_number, from_last}
 use Rattle.pre_trace.specs.Queries.{Begins, Arrivals, Packet, Packets, PacketsBefore, Waiting, packet}
 use Rattle.pre_trace.specs.LinkState.{Active, ActiveIn}
 use Rattle.pre_trace.specs.Starts.{Item, Choice, There, whole_frame, without_octets, lldp_begins}
-use Rattle.pre_trace.specs.Comings.{Coming, Comings, EntriesOf, entry_event, entry_for, next_arc, hops, first_arc, sends_from, relayed, below, after, frame_at}
+use Rattle.pre_trace.specs.Comings.{Coming, Comings, EntriesOf, entry_event, entry_for, hops}
 use Rattle.pre_trace.specs.Deliveries.{IsDirect}
 use Rattle.std.proofs.lemmas.List.Elements.{All-contains}
 use Rattle.std.specs.Prelude.{Contains}
@@ -25,7 +23,7 @@ use Rattle.pre_trace.proofs.Lists.{there, every_at}
 use Rattle.pre_trace.proofs.Routes.{first_on, next_on}
 use Rattle.pre_trace.proofs.Relays.{IsSent, IsRelayed, ComesBy, comings_by}
 use Rattle.pre_trace.proofs.Steady.{Steady}
-use Rattle.pre_trace.proofs.Lists.{within, every_weaker, every_selected, every_filter, filter_nil, none_selected}
+use Rattle.pre_trace.proofs.Lists.{within, every_weaker, every_selected, every_filter, filter_nil}
 use Rattle.pre_trace.proofs.Fronts.{IsWholeBegin, IsRight, AtFront, at_front_of}
 
 -- ---- what began
@@ -56,10 +54,10 @@ begins_right w h a right = every_selected (begin_on a) (IsRight w) (IsWholeBegin
 -- ---- what comes to rings
 
 -- a frame that comes to a ring is of the script, and does so on its route, not before it is sent
-record ComesRight (w : Scenario) (t : ℕ) (c : Coming) : Type 0 where
-  arc : Contains (hops w c.frame) c.arc
-  sent : (send w c.frame).send.tick.0 ≤ t
-  known : c.frame < length w.script.sends
+pub record ComesRight (w : Scenario) (t : ℕ) (c : Coming) : Type 0 where
+  pub arc : Contains (hops w c.frame) c.arc
+  pub sent : (send w c.frame).send.tick.0 ≤ t
+  pub known : c.frame < length w.script.sends
 
 sent_right : (w : Scenario) (t : ℕ) (c : Coming) → IsDirect w → IsSent w t c → ComesRight w t c
 sent_right w t c direct s = record {
@@ -79,7 +77,7 @@ relay_right w n past t a c right s r =
     let travel = s.ordered.travels r.place e.0 r.x e.1 r.arrived in
     record { arc = next_on (hops w c.frame) a c.arc r.next; sent = omega (arith, began.sent, span, travel, r.over); known = began.known }
 
-comings_right : (w : Scenario) (n : ℕ) (past : History) (t : ℕ) → IsDirect w → Every (IsRight w) past → ((a : ℕ) → a < length w.net.arcs → Steady w n past a) → Every (ComesRight w t) (Comings w past t)
+pub comings_right : (w : Scenario) (n : ℕ) (past : History) (t : ℕ) → IsDirect w → Every (IsRight w) past → ((a : ℕ) → a < length w.net.arcs → Steady w n past a) → Every (ComesRight w t) (Comings w past t)
 comings_right w n past t direct right s = every_weaker (ComesBy w past t) (ComesRight w t) comes (Comings w past t) (comings_by w past t)
   where
     comes : (c : Coming) → ComesBy w past t c → ComesRight w t c

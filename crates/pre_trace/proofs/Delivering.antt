@@ -17,7 +17,6 @@ use Rattle.pre_trace.specs.Comings.{frame_at, hops, next_arc}
 use Rattle.pre_trace.specs.Rules.{HappensIn}
 use Rattle.pre_trace.specs.Placed.{number, AllBefore}
 use Rattle.pre_trace.specs.Deliveries.{IsDirect}
-use Rattle.pre_trace.specs.declared.events.What.{What}
 use Rattle.pre_trace.specs.declared.events.Outcome.{Outcome}
 use Rattle.pre_trace.specs.declared.events.Outcome.TheVariants as outcome
 use Rattle.pre_trace.specs.Scenario.{FrameOf}

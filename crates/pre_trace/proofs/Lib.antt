@@ -25,6 +25,9 @@ pub mod Coming
 pub mod Keeping
 pub mod Delivering
 pub mod DeliveredOnce
+pub mod Pairs
+pub mod Grounds
+pub mod ComingOnce
 pub mod Carrying
 pub mod DirectArrivals
 pub mod NameWords

@@ -4,7 +4,6 @@ use Rattle.std.specs.Prelude.{if◌then◌else◌, slice_get, slice_index_or, fl
 use Rattle.std.specs.List.{AllByRecursion as Every}
 use Rattle.std.proofs.lemmas.Bool.Decides.{nat_tests}
 use Rattle.std.proofs.lemmas.List.Elements.{filter_map-append}
-use Rattle.pre_base.specs.declared.numbers.FrameNo.{FrameNo}
 use Rattle.pre_script.specs.declared.scripts.SendLine.{SendLine}
 use Rattle.pre_trace.specs.declared.events.What.{What}
 use Rattle.pre_trace.specs.declared.events.What.TheVariants as what
@@ -13,6 +12,7 @@ use Rattle.pre_trace.specs.History.{History, Begin, Arrive}
 use Rattle.pre_trace.specs.Selected.{begin_on, arrive_on, frame_in, is_frame_result}
 use Rattle.pre_trace.specs.Queries.{Begins, Arrivals}
 use Rattle.pre_trace.specs.Comings.{Coming, Comings, next_arc, first_arc, sends_from, relayed, below, frame_at}
+use Rattle.pre_trace.proofs.Pairs.{every_flat}
 use Rattle.pre_trace.proofs.Lists.{within, at_front, every-append, every_weaker, every_placed, every_selected}
 
 -- ---- which frame an mPacket carries
@@ -76,26 +76,26 @@ and_parts true false is = absurd (cc is)
 and_parts false c is = absurd (cc is)
 
 module _ (w : Scenario) (past : History) (t : ℕ) where
-  pub relay_of : (a i : ℕ) (x : Arrive) (c : Coming) → slice_get (Arrivals past a) i ≡ Some x → relayed w past t a x ≡ Some c → IsRelayed w past t a c
+  pub relay_of : (a i : ℕ) (x : Arrive) (c : Coming) → slice_get (Arrivals past a) i ≡ Some x → relayed w past t a x ≡ Some c → (r : IsRelayed w past t a c) × (r.place ≡ i)
   relay_of a i x c at is = due (is_frame_result x.result && (x.tick + latency w a == t)) refl is
     where
       handed : (f : ℕ) (o : Option ℕ) → (x.tick + latency w a == t) ≡ true → frame_at past a x.ord ≡ Some f → next_arc w a f ≡ o → option_map {U = Coming} (λ b. record { arc = b; frame = f }) o ≡ Some c
-          → IsRelayed w past t a c
+          → (r : IsRelayed w past t a c) × (r.place ≡ i)
       handed f None now frame next is = absurd (cc is)
       handed f (Some b) now frame next is =
           let made : Coming = record { arc = b; frame = f } in
           let same : made ≡ c = cc is in
           let over : x.tick + latency w a ≡ t = grind (arith, nat_tests) in
           let o = carried past a x.ord f frame in
-          subst (IsRelayed w past t a) same (record { place = i; x = x; b = o.0; arrived = at; begun = o.1; carries = o.2; over = over; next = next })
+          subst (λ c. (r : IsRelayed w past t a c) × (r.place ≡ i)) same (record { place = i; x = x; b = o.0; arrived = at; begun = o.1; carries = o.2; over = over; next = next }, refl)
 
       found : (o : Option ℕ) → (x.tick + latency w a == t) ≡ true → frame_at past a x.ord ≡ o → option_and_then {U = Coming} (λ f. option_map (λ b. record { arc = b; frame = f }) (next_arc w a f)) o ≡ Some c
-          → IsRelayed w past t a c
+          → (r : IsRelayed w past t a c) × (r.place ≡ i)
       found None now frame is = absurd (cc is)
       found (Some f) now frame is = handed f (next_arc w a f) now frame refl is
 
       due : (b : Bool) → (is_frame_result x.result && (x.tick + latency w a == t)) ≡ b
-          → (if b then option_and_then {U = Coming} (λ f. option_map (λ b. record { arc = b; frame = f }) (next_arc w a f)) (frame_at past a x.ord) else None) ≡ Some c → IsRelayed w past t a c
+          → (if b then option_and_then {U = Coming} (λ f. option_map (λ b. record { arc = b; frame = f }) (next_arc w a f)) (frame_at past a x.ord) else None) ≡ Some c → (r : IsRelayed w past t a c) × (r.place ≡ i)
       due false off is = absurd (cc is)
       due true on is = found (frame_at past a x.ord) (and_parts (is_frame_result x.result) (x.tick + latency w a == t) on).1 refl is
 
@@ -106,7 +106,7 @@ module _ (w : Scenario) (past : History) (t : ℕ) where
   pub relays_are : (a : ℕ) → Every (IsRelayed w past t a) (relays a)
   relays_are a =
       every_selected (relayed w past t a) (λ x. (c : Coming) → relayed w past t a x ≡ Some c → IsRelayed w past t a c) (IsRelayed w past t a) (λ x c is. is c) (Arrivals past a)
-      (every_placed (λ x. (c : Coming) → relayed w past t a x ≡ Some c → IsRelayed w past t a c) (Arrivals past a) (λ i x at c. relay_of a i x c at))
+      (every_placed (λ x. (c : Coming) → relayed w past t a x ≡ Some c → IsRelayed w past t a c) (Arrivals past a) (λ i x at c is. (relay_of a i x c at is).0))
 
   read_any : {X : Type 0} (xs : List X) (i : ℕ) (x d : X) → slice_get xs i ≡ Some x → slice_index_or xs i d ≡ x
   read_any [] i x d at = absurd (cc at)
@@ -137,10 +137,6 @@ module _ (w : Scenario) (past : History) (t : ℕ) where
   pub arcs_below : (n : ℕ) → Every (λ a. a < n) (below n)
   arcs_below zero = tt
   arcs_below (suc n) = every-append (λ a. a < suc n) (below n) (n ∷ []) (every_weaker (λ a. a < n) (λ a. a < suc n) (λ a lt. omega (arith, lt)) (below n) (arcs_below n)) (omega arith, tt)
-
-  every_flat : {X Y : Type 0} (P : Y → Type 0) (Q : X → Type 0) (g : X → List Y) → ((x : X) → Q x → Every P (g x)) → (xs : List X) → Every Q xs → Every P (flat_map g xs)
-  every_flat P Q g says [] q = tt
-  every_flat P Q g says (x ∷ xs) (here, more) = every-append P (g x) (flat_map g xs) (says x here) (every_flat P Q g says xs more)
 
   pub comings_by : Every (ComesBy w past t) (Comings w past t)
   comings_by =

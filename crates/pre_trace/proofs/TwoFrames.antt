@@ -25,7 +25,7 @@ use Rattle.pre_trace.proofs.Lists.{any_at, found_at}
 use Rattle.pre_trace.proofs.Free.{packet_at}
 use Rattle.pre_trace.proofs.Fronts.{IsRight, EntersRight, BeginsRight, IsWholeBegin}
 use Rattle.pre_trace.proofs.Undamaged.{user_frame}
-use Rattle.pre_trace.proofs.PairFacts.{SendsAtStart, cost_one, far_end, first_ab, on_ab, no_next, prio_six, direct, no_delay, frame_size}
+use Rattle.pre_trace.proofs.PairFacts.{SendsAtStart, cost_one, far_end, first_ab, on_ab, no_next, prio_six, no_delay, frame_size}
 use Rattle.pre_trace.proofs.Quiet.{selected, comings_are, not_due}
 
 pub from_two : (w : Scenario) → SendsTwoFrames w → SendsAtStart w

@@ -1,4 +1,4 @@
-ghost use Rattle.std.specs.Prelude.{◌↔◌, ◌≡◌, ◌⊎◌, ℕ, ◌+◌, ◌*◌, ◌<◌, ◌++◌, [], length, ◌≤◌, slice_get, All, Some, List, Bool, false};
+ghost use Rattle.std.specs.Prelude.{◌↔◌, ◌≡◌, ◌≢◌, ◌⊎◌, ℕ, ◌+◌, ◌*◌, ◌<◌, ◌++◌, [], length, ◌≤◌, slice_get, All, AllPairs, Some, List, Bool, false};
 ghost use Rattle.std.specs.Bool.{Decides};
 ghost use Rattle.pre_base.specs.declared.numbers.FrameNo.{FrameNo};
 ghost use Rattle.pre_lldp.specs.Ages.{CountsEnabled, Heard};
@@ -11,7 +11,8 @@ ghost use Rattle.pre_topo.specs.declared.arcs.Mode.TheVariants as mode;
 ghost use Rattle.pre_topo.specs.declared.network.Network.{Network};
 ghost use Rattle.pre_trace.specs.declared.events.What.TheVariants as what;
 ghost use Rattle.pre_trace.specs.Octets.{Air, ToldActive};
-ghost use Rattle.pre_trace.specs.Deliveries.{DeliversOnce, IsDirect, IsPlain};
+ghost use Rattle.pre_trace.specs.Deliveries.{ComeOnce, DeliversOnce, IsDirect, IsPlain};
+ghost use Rattle.pre_trace.specs.Comings.{Comings};
 ghost use Rattle.pre_trace.specs.Examples.{SendsOneFrame, SendsTwoFrames, one_frame, two_frames};
 ghost use Rattle.pre_trace.specs.History.{Begin, Ended, History};
 ghost use Rattle.pre_trace.specs.Legal.{Alias, CountLines, Legal, LegalUpTo};
@@ -19,7 +20,7 @@ ghost use Rattle.pre_trace.specs.LinkState.{Active, AreHeard, Good, RespondTicks
 ghost use Rattle.pre_trace.specs.Moments.{Phase, moment_at};
 ghost use Rattle.pre_trace.specs.Ordered.{HaveArrived, HaveChecks, HaveSizes, IsOrdered};
 ghost use Rattle.pre_trace.specs.Placed.{AllBefore, AllLater, number};
-ghost use Rattle.pre_trace.specs.Queries.{Arrivals, Begins, Ends, Occupied, SettingOf, Waiting};
+ghost use Rattle.pre_trace.specs.Queries.{Arrivals, Begins, Ends, Entries, Occupied, SettingOf, Waiting};
 ghost use Rattle.pre_trace.specs.Rules.{Arriving, EndDue, Happens, HappensIn, OneOrNone};
 ghost use Rattle.pre_trace.specs.Scenario.{FrameOf, Scenario, arc};
 ghost use Rattle.pre_trace.specs.Starts.{ExpressWaits, begun};
@@ -64,14 +65,24 @@ pub fn queries_stay()
     pre_mpacket::later_arrivals();
 }
 
-/// Where frames go whole over one arc and none is lost or damaged, each delivery of a legal history has the octets of the
-/// frame that it names, which was sent by then, and no two deliveries name one frame. A frame that has ended gives itself
-/// where it arrives.
+/// Where frames go whole over each arc of their routes and none is lost or damaged, each delivery of a legal history has the
+/// octets of the frame that it names, which was sent by then, and no two deliveries name one frame. A frame that has ended
+/// gives itself where it arrives.
 pub fn deliveries_are_what_was_sent()
     ensures whole { (w : Scenario) → IsDirect w → (h : History) → Legal w h → DeliversOnce w h }
     ensures so_far { (w : Scenario) → IsDirect w → (n : ℕ) (h : History) → LegalUpTo w n h → DeliversOnce w h }
     ensures arrives { (w : Scenario) → IsDirect w → (n : ℕ) (h : History) (a i : ℕ) (b : Begin) (e : Ended) (f : FrameNo) → a < length w.net.arcs → LegalUpTo w n h
         → slice_get (Begins h a) i ≡ Some b → slice_get (Ends h a) i ≡ Some e → b.what ≡ what.Frame f → Gives (Air w h a) i (Given.frame (FrameOf w f.0)) }
+{
+    pre_mpacket::one_mpacket();
+    pre_mpacket::one_given();
+}
+
+/// In a direct run a frame comes to a ring of each arc of its route once at most.
+pub fn frames_come_once()
+    ensures entries { (w : Scenario) → IsDirect w → (n : ℕ) (h : History) (a p : ℕ) → LegalUpTo w n h → AllPairs (λ d e. d.frame ≢ e.frame) (Entries h a p) }
+    ensures comings { (w : Scenario) → IsDirect w → (t : ℕ) (past : History) → LegalUpTo w (number (length w.net.arcs) t (1 + 3 * length w.net.arcs)) past
+        → ComeOnce w past (Comings w past t) }
 {
     pre_mpacket::one_mpacket();
     pre_mpacket::one_given();

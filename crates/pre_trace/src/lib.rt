@@ -10,8 +10,8 @@ mod written;
 pub use events::{Event, Outcome, What};
 pub use laws::{
     active_is_told, arcs_are_links, deliveries_are_what_was_sent, direct_arrivals,
-    events_before_their_end, idle_moments, mpackets_in_order, one_history, one_told_history,
-    queries_stay, small_histories_are_legal, tests_are_decided, turns_are_kept,
+    events_before_their_end, frames_come_once, idle_moments, mpackets_in_order, one_history,
+    one_told_history, queries_stay, small_histories_are_legal, tests_are_decided, turns_are_kept,
 };
 pub use text::put_event;
 pub use watchers::{TraceWatcher, Watcher};
