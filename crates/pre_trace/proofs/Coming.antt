@@ -1,6 +1,6 @@
 -- In a direct run frames come to rings on their routes, and begin whole.
 use Rattle.std.proofs.Common.{ℕ, ◌≡◌, ◌≢◌, ◌==◌, ◌<◌, ◌≤◌, nat_lt, Bool, true, false, List, [], ◌∷◌, ◌++◌, length, refl, sym, ◌∙◌, ap, inl, inr, arith, subst, Some, None, map, filter}
-use Rattle.std.specs.Prelude.{if◌then◌else◌, slice_get}
+use Rattle.std.specs.Prelude.{if◌then◌else◌, slice_get, Contains}
 use Rattle.std.specs.List.{AllByRecursion as Every}
 use Rattle.pre_base.specs.declared.numbers.FrameNo.{FrameNo}
 use Rattle.pre_topo.specs.declared.arcs.Mode.TheVariants as mode
@@ -11,19 +11,16 @@ use Rattle.pre_trace.specs.declared.events.What.TheVariants as what
 use Rattle.pre_trace.specs.Scenario.{Scenario, arc, row, send, capacity}
 use Rattle.pre_trace.specs.History.{PlainEvent, History, Begin}
 use Rattle.pre_trace.specs.Selected.{begin_on, frame_number, from_last}
-use Rattle.pre_trace.specs.Queries.{Begins, Arrivals, Packet, Packets, PacketsBefore, Waiting, packet}
+use Rattle.pre_trace.specs.Queries.{Begins, Arrivals, Packet, Packets, PacketsBefore, Waiting, packet, Ends}
 use Rattle.pre_trace.specs.LinkState.{Active, ActiveIn}
 use Rattle.pre_trace.specs.Starts.{Item, Choice, There, whole_frame, without_octets, lldp_begins}
 use Rattle.pre_trace.specs.Comings.{Coming, Comings, EntriesOf, entry_event, entry_for, hops}
 use Rattle.pre_trace.specs.Deliveries.{IsDirect}
 use Rattle.std.proofs.lemmas.List.Elements.{All-contains}
-use Rattle.std.specs.Prelude.{Contains}
-use Rattle.pre_trace.specs.Queries.{Ends}
-use Rattle.pre_trace.proofs.Lists.{there, every_at}
+use Rattle.pre_trace.proofs.Lists.{there, every_at, within, every_weaker, every_selected, every_filter, filter_nil}
 use Rattle.pre_trace.proofs.Routes.{first_on, next_on}
 use Rattle.pre_trace.proofs.Relays.{IsSent, IsRelayed, ComesBy, comings_by}
 use Rattle.pre_trace.proofs.Steady.{Steady}
-use Rattle.pre_trace.proofs.Lists.{within, every_weaker, every_selected, every_filter, filter_nil}
 use Rattle.pre_trace.proofs.Fronts.{IsWholeBegin, IsRight, AtFront, at_front_of}
 
 -- ---- what began

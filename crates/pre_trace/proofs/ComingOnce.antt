@@ -3,6 +3,7 @@ use Rattle.std.proofs.Common.{ℕ, zero, suc, ◌≡◌, ◌≢◌, ◌==◌, �
 use Rattle.std.specs.Prelude.{if◌then◌else◌, slice_get, flat_map, All, AllPairs, Contains}
 use Rattle.std.specs.List.{AllByRecursion as Every, cons_option}
 use Rattle.std.proofs.lemmas.List.{append-nil}
+use Rattle.std.proofs.lemmas.Bool.{and_parts}
 use Rattle.std.proofs.lemmas.Bool.Decides.{nat_tests}
 use Rattle.std.proofs.lemmas.List.Elements.{filter_map-append, All-from_recursion}
 use Rattle.pre_base.specs.declared.numbers.FrameNo.{FrameNo}
@@ -34,6 +35,10 @@ use Rattle.pre_trace.proofs.Coming.{ComesRight, begins_right, comings_right}
 use Rattle.pre_trace.proofs.Keeping.{AllRight}
 use Rattle.pre_trace.proofs.DeliveredOnce.{all_right}
 use Rattle.pre_trace.proofs.Grounds.{HasEntry, coming_to, IsGrounded, grounded, entries_came, begins_entered, entries_before}
+
+-- the moment of a tick at which frames come to rings
+abbrev pub entries_moment : Scenario → ℕ → ℕ
+entries_moment w t = number (length w.net.arcs) t (1 + 3 * length w.net.arcs)
 
 -- two comings that aren't one frame on one arc
 abbrev pub AreApart : Coming → Coming → Type 0
@@ -78,16 +83,16 @@ module _ (w : Scenario) (direct : IsDirect w) (n : ℕ) (h : History) (all : All
 
 -- ---- the comings of a tick
 
-module _ (w : Scenario) (direct : IsDirect w) (t : ℕ) (past : History) (all : AllRight w past) (s : (a : ℕ) → a < length w.net.arcs → Steady w (number (length w.net.arcs) t (1 + 3 * length w.net.arcs)) past a)
-    (grounds : Every (IsGrounded w past) past) (legal : LegalUpTo w (number (length w.net.arcs) t (1 + 3 * length w.net.arcs)) past) where
+module _ (w : Scenario) (direct : IsDirect w) (t : ℕ) (past : History) (all : AllRight w past) (s : (a : ℕ) → a < length w.net.arcs → Steady w (entries_moment w t) past a)
+    (grounds : Every (IsGrounded w past) past) (legal : LegalUpTo w (entries_moment w t) past) where
   -- what comes now didn't come before
   not_before : (c : Coming) (p : ℕ) → ComesBy w past t c → Every (λ (r : RingEntry). r.frame ≢ c.frame) (Entries past c.arc p)
   not_before c p by = every_placed (λ (r : RingEntry). r.frame ≢ c.frame) (Entries past c.arc p) (λ i r at same.
       let came : ComesBy w past r.tick (coming_to c.arc r.frame) = every_at (λ (r : RingEntry). ComesBy w past r.tick (coming_to c.arc r.frame)) (Entries past c.arc p) i r (entries_came w past c.arc p grounds) at in
-      let early = every_at (λ (r : RingEntry). number (length w.net.arcs) r.tick (1 + 3 * length w.net.arcs) < number (length w.net.arcs) t (1 + 3 * length w.net.arcs)) (Entries past c.arc p) i r
-      (entries_before (length w.net.arcs) (number (length w.net.arcs) t (1 + 3 * length w.net.arcs)) c.arc p past (placed w (number (length w.net.arcs) t (1 + 3 * length w.net.arcs)) past legal)) at in
+      let early = every_at (λ (r : RingEntry). number (length w.net.arcs) r.tick (1 + 3 * length w.net.arcs) < entries_moment w t) (Entries past c.arc p) i r
+      (entries_before (length w.net.arcs) (entries_moment w t) c.arc p past (placed w (entries_moment w t) past legal)) at in
       let before : r.tick < t = tick_lt (moments (length w.net.arcs)) r.tick t (1 + 3 * length w.net.arcs) early in
-      let now : r.tick ≡ t = one_tick w direct (number (length w.net.arcs) t (1 + 3 * length w.net.arcs)) past all s r.tick t c (subst (λ f. ComesBy w past r.tick (coming_to c.arc f)) same came) by in
+      let now : r.tick ≡ t = one_tick w direct (entries_moment w t) past all s r.tick t c (subst (λ f. ComesBy w past r.tick (coming_to c.arc f)) same came) by in
       omega (arith, before, now))
 
   -- and so it didn't begin
@@ -108,18 +113,18 @@ module _ (w : Scenario) (direct : IsDirect w) (t : ℕ) (past : History) (all : 
   one_each a lt = pairs_selected (relayed w past t a) AreApart (Arrivals past a) (λ i j x z c d less at at' is is' arcs frames.
       let r = relay_of w past t a i x c at is in
       let q = relay_of w past t a j z d at' is' in
-      let place = one_arrival w direct (number (length w.net.arcs) t (1 + 3 * length w.net.arcs)) past all s t t a c d lt frames r.0 q.0 in
+      let place = one_arrival w direct (entries_moment w t) past all s t t a c d lt frames r.0 q.0 in
       omega (arith, less, place, r.1, q.1))
 
   apart_arcs : (a b : ℕ) → a ≢ b → Every (λ c. Every (AreApart c) (relays w past t b)) (relays w past t a)
   apart_arcs a b other =
       every_weaker (IsRelayed w past t a) (λ c. Every (AreApart c) (relays w past t b)) (λ c r. every_weaker (IsRelayed w past t b) (AreApart c) (λ d q arcs frames.
-      other (one_from w direct (number (length w.net.arcs) t (1 + 3 * length w.net.arcs)) past all s t t a b c d r q arcs frames)) (relays w past t b) (relays_are w past t b)) (relays w past t a) (relays_are w past t a)
+      other (one_from w direct (entries_moment w t) past all s t t a b c d r q arcs frames)) (relays w past t b) (relays_are w past t b)) (relays w past t a) (relays_are w past t a)
 
   apart_sends : (a : ℕ) → Every (λ c. Every (AreApart c) (sends_from w t 0 w.script.sends)) (relays w past t a)
   apart_sends a =
       every_weaker (IsRelayed w past t a) (λ c. Every (AreApart c) (sends_from w t 0 w.script.sends)) (λ c r. every_weaker (IsSent w t) (AreApart c) (λ d q arcs frames.
-      sent_apart w direct (number (length w.net.arcs) t (1 + 3 * length w.net.arcs)) past all s t t a c d r q arcs frames) (sends_from w t 0 w.script.sends) (sends_are w past t)) (relays w past t a) (relays_are w past t a)
+      sent_apart w direct (entries_moment w t) past all s t t a c d r q arcs frames) (sends_from w t 0 w.script.sends) (sends_are w past t)) (relays w past t a) (relays_are w past t a)
 
   apart_below : (m : ℕ) → Pairs (λ a b. a ≢ b) (below m)
   apart_below zero = tt
@@ -150,7 +155,7 @@ module _ (w : Scenario) (direct : IsDirect w) (t : ℕ) (past : History) (all : 
 
   pub come_once : ComeOnce w past (Comings w past t)
   come_once =
-      let right = comings_right w (number (length w.net.arcs) t (1 + 3 * length w.net.arcs)) past t direct all.right s in
+      let right = comings_right w (entries_moment w t) past t direct all.right s in
       let by = comings_by w past t in
       record {
         known = All-from_recursion (λ c. c.frame < length w.script.sends) (Comings w past t) (every_weaker (ComesRight w t) (λ c. c.frame < length w.script.sends) (λ c r. r.known) (Comings w past t) right);
@@ -169,16 +174,12 @@ module _ (w : Scenario) (direct : IsDirect w) (t : ℕ) (past : History) (all : 
   entry_is : (a p : ℕ) (g : History) (c : Coming) (r : RingEntry) → entry_on a p (entry_event w t g c) ≡ Some r → (c.arc ≡ a) × (r.frame ≡ c.frame)
   entry_is a p g c r is = go (length (Waiting g c.arc (row w c.frame).prio t) == capacity w c.arc (row w c.frame).prio) is
     where
-      first : (b d : Bool) → (b && d) ≡ true → b ≡ true
-      first true d is = refl
-      first false d is = absurd (cc is)
-
       kept : (e b : Bool) → ((c.arc == a) && ((row w c.frame).prio == p)) ≡ b → (if b then Some (record { tick = t; frame = c.frame; entered = e }) else None) ≡ Some r → (c.arc ≡ a) × (r.frame ≡ c.frame)
       kept e false off is = absurd (cc is)
       kept e true on is =
           let made : RingEntry = record { tick = t; frame = c.frame; entered = e } in
           let same : made ≡ r = cc is in
-          let arc_is : c.arc ≡ a = grind (arith, nat_tests, first (c.arc == a) ((row w c.frame).prio == p) on) in
+          let arc_is : c.arc ≡ a = grind (arith, nat_tests, (and_parts (c.arc == a) ((row w c.frame).prio == p) on).0) in
           (arc_is, sym (ap (λ (x : RingEntry). x.frame) same))
 
       go : (b : Bool) → entry_on a p (if b then PlainEvent.dropped (entry_for w t c) else PlainEvent.enter (entry_for w t c)) ≡ Some r → (c.arc ≡ a) × (r.frame ≡ c.frame)
@@ -219,10 +220,10 @@ module _ (w : Scenario) (direct : IsDirect w) (t : ℕ) (past : History) (all : 
 -- ---- over all moments
 
 module _ (spelled : OneSpelled) (given : OneGiven) (w : Scenario) (direct : IsDirect w) where
-  pub comes_once : (t : ℕ) (past : History) → LegalUpTo w (number (length w.net.arcs) t (1 + 3 * length w.net.arcs)) past → ComeOnce w past (Comings w past t)
+  pub comes_once : (t : ℕ) (past : History) → LegalUpTo w (entries_moment w t) past → ComeOnce w past (Comings w past t)
   comes_once t past legal =
-      come_once w direct t past (all_right spelled given w direct (number (length w.net.arcs) t (1 + 3 * length w.net.arcs)) past legal)
-      (λ a lt. steady w (number (length w.net.arcs) t (1 + 3 * length w.net.arcs)) past a lt legal) (grounded spelled given w direct (number (length w.net.arcs) t (1 + 3 * length w.net.arcs)) past legal) legal
+      come_once w direct t past (all_right spelled given w direct (entries_moment w t) past legal)
+      (λ a lt. steady w (entries_moment w t) past a lt legal) (grounded spelled given w direct (entries_moment w t) past legal) legal
 
   no_entry : (arcs t k a p : ℕ) → k < moments arcs → k ≢ 1 + 3 * arcs → (e : PlainEvent) → IsAt arcs (number arcs t k) e → entry_on a p e ≡ None
   no_entry arcs t k a p lt other (PlainEvent.enter e) at = absurd (other (same_place arcs t e.tick k (1 + 3 * arcs) lt (omega arith) at))
@@ -250,11 +251,11 @@ module _ (spelled : OneSpelled) (given : OneGiven) (w : Scenario) (direct : IsDi
     step legal (Phase.expiries b) (b_lt, place) happens = quiet (λ e. absurd (omega (arith, e, place, b_lt)))
     step legal (Phase.starts b) (b_lt, place) happens = quiet (λ e. absurd (omega (arith, e, place)))
     step legal Phase.entries place happens =
-        let legal' : LegalUpTo w (number (length w.net.arcs) t (1 + 3 * length w.net.arcs)) past = subst (λ k. LegalUpTo w (number (length w.net.arcs) t k) past) place legal in
-        let all = all_right spelled given w direct (number (length w.net.arcs) t (1 + 3 * length w.net.arcs)) past legal' in
-        let grounds = grounded spelled given w direct (number (length w.net.arcs) t (1 + 3 * length w.net.arcs)) past legal' in
+        let legal' : LegalUpTo w (entries_moment w t) past = subst (λ k. LegalUpTo w (number (length w.net.arcs) t k) past) place legal in
+        let all = all_right spelled given w direct (entries_moment w t) past legal' in
+        let grounds = grounded spelled given w direct (entries_moment w t) past legal' in
         subst (λ xs. Pairs OtherFrame (Entries (past ++ xs) a p)) (sym happens)
-        (entries_more w direct t past all (λ a lt. steady w (number (length w.net.arcs) t (1 + 3 * length w.net.arcs)) past a lt legal') grounds legal' a p old)
+        (entries_more w direct t past all (λ a lt. steady w (entries_moment w t) past a lt legal') grounds legal' a p old)
 
   entries_pairs : (n : ℕ) (h : History) (a p : ℕ) → LegalUpTo w n h → Pairs OtherFrame (Entries h a p)
   entries_pairs zero h a p is = subst (λ x. Pairs OtherFrame (Entries x a p)) (sym is) tt

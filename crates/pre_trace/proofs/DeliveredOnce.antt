@@ -1,23 +1,20 @@
 -- Each delivery of a direct run has the octets of the frame that it names, and no two name one frame: an induction over moments.
 use Rattle.std.proofs.Common.{ℕ, zero, suc, ◌≡◌, ◌≢◌, ◌⊎◌, ◌==◌, ◌&&◌, ◌+◌, ◌*◌, ◌/◌, ◌%◌, ◌<◌, ◌≤◌, Bool, true, false, [], ◌∷◌, ◌++◌, length, refl, sym, ◌∙◌, ap, inl, inr, arith, subst}
-use Rattle.std.specs.Prelude.{AllPairs, if◌then◌else◌}
+use Rattle.std.specs.Prelude.{AllPairs, if◌then◌else◌, slice_get, Some}
 use Rattle.std.proofs.lemmas.List.{append-nil}
 use Rattle.std.proofs.lemmas.List.Elements.{filter_map-append, All-weaker, All-nil, All-same}
 use Rattle.pre_trace.specs.Scenario.{Scenario, send, FrameOf}
 use Rattle.pre_trace.specs.Moments.{Phase, moments, phase_at}
-use Rattle.pre_trace.specs.History.{PlainEvent, History, Delivery}
+use Rattle.pre_trace.specs.History.{PlainEvent, History, Delivery, Begin, Ended}
 use Rattle.pre_trace.specs.Selected.{delivery_of}
-use Rattle.pre_trace.specs.Queries.{Deliveries}
+use Rattle.pre_trace.specs.Queries.{Deliveries, Begins, Ends}
 use Rattle.pre_trace.specs.Rules.{HappensIn}
 use Rattle.pre_trace.specs.Placed.{HasPlace, number, IsAt, AllAt, AllBefore}
 use Rattle.pre_trace.specs.Legal.{LegalUpTo, Legal, CountLines, count_line, closing, last_moment}
 use Rattle.pre_trace.specs.Deliveries.{IsDirect, DeliversOnce}
 use Rattle.pre_base.specs.declared.numbers.FrameNo.{FrameNo}
-use Rattle.std.specs.Prelude.{slice_get, Some}
 use Rattle.pre_mpacket.specs.Arrivals.{Given, Gives}
 use Rattle.pre_trace.specs.declared.events.What.TheVariants as what
-use Rattle.pre_trace.specs.History.{Begin, Ended}
-use Rattle.pre_trace.specs.Queries.{Begins, Ends}
 use Rattle.pre_trace.specs.Octets.{Air}
 use Rattle.pre_trace.proofs.Fronts.{IsWholeBegin}
 use Rattle.pre_trace.proofs.Coming.{begins_right}

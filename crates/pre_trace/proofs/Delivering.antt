@@ -7,21 +7,19 @@ use Rattle.std.proofs.lemmas.List.Quantifiers.{all_pairs_push}
 use Rattle.std.proofs.lemmas.Bool.Decides.{nat_tests}
 use Rattle.pre_base.specs.declared.numbers.FrameNo.{FrameNo}
 use Rattle.pre_trace.specs.declared.events.What.TheVariants as what
-use Rattle.pre_trace.specs.Scenario.{Scenario, arc, send}
+use Rattle.pre_trace.specs.Scenario.{Scenario, arc, send, FrameOf}
 use Rattle.pre_trace.specs.Moments.{Phase, moments}
 use Rattle.pre_trace.specs.History.{PlainEvent, History, Begin, Ended, Arrive, Delivery}
 use Rattle.pre_trace.specs.Selected.{begin_on, arrive_on, delivery_of, what_is, frame_in}
 use Rattle.pre_trace.specs.Queries.{Begins, Ends, Arrivals, Deliveries}
 use Rattle.pre_trace.specs.Starts.{Choice, StartRule}
 use Rattle.pre_trace.specs.Comings.{frame_at, hops, next_arc}
-use Rattle.pre_trace.specs.Rules.{HappensIn}
+use Rattle.pre_trace.specs.Rules.{HappensIn, WithDelivery, delivered, arrival}
 use Rattle.pre_trace.specs.Placed.{number, AllBefore}
 use Rattle.pre_trace.specs.Deliveries.{IsDirect}
 use Rattle.pre_trace.specs.declared.events.Outcome.{Outcome}
 use Rattle.pre_trace.specs.declared.events.Outcome.TheVariants as outcome
-use Rattle.pre_trace.specs.Scenario.{FrameOf}
 use Rattle.pre_trace.specs.Octets.{Air}
-use Rattle.pre_trace.specs.Rules.{WithDelivery, delivered, arrival}
 use Rattle.pre_mpacket.specs.Arrivals.{Given, Gives}
 use Rattle.pre_trace.proofs.Lists.{at_end, there, within, every_at, every-append, at_front}
 use Rattle.pre_trace.proofs.Arrived.{OneGiven}

@@ -2,6 +2,7 @@
 use Rattle.std.proofs.Common.{ℕ, zero, suc, ◌≡◌, ◌==◌, ◌&&◌, ◌||◌, not, nat_lt, nat_le, ◌<◌, ◌≤◌, Bool, true, false, List, [], ◌∷◌, length, refl, sym, ◌∙◌, ap, arith, subst, Some, None, map, filter}
 use Rattle.std.specs.Prelude.{if◌then◌else◌, slice_get, Contains}
 use Rattle.std.specs.List.{list_any, AllByRecursion as Every}
+use Rattle.std.proofs.lemmas.Bool.{and_parts}
 use Rattle.std.proofs.lemmas.Bool.Decides.{nat_tests}
 use Rattle.pre_base.specs.declared.numbers.FrameNo.{FrameNo}
 use Rattle.pre_mpacket.specs.declared.packets.Kind.TheVariants as kind
@@ -52,11 +53,6 @@ pub record RingRight (w : Scenario) (a p : ℕ) (r : RingEntry) : Type 0 where
   pub prio : r.entered ≡ true → p ≡ (row w r.frame).prio
   pub sent : r.entered ≡ true → (send w r.frame).send.tick.0 ≤ r.tick
   pub known : r.entered ≡ true → r.frame < length w.script.sends
-
-and_parts : (b c : Bool) → (b && c) ≡ true → (b ≡ true) × (c ≡ true)
-and_parts true true is = (refl, refl)
-and_parts true false is = absurd (cc is)
-and_parts false c is = absurd (cc is)
 
 dropped_right : (w : Scenario) (a p : ℕ) (e : Entry) (r : RingEntry) (b : Bool) → (if b then Some (record { tick = e.tick; frame = e.frame; entered = false }) else None) ≡ Some r → RingRight w a p r
 dropped_right w a p e r true is =

@@ -2,6 +2,7 @@
 use Rattle.std.proofs.Common.{ℕ, zero, suc, ◌≡◌, ◌==◌, ◌&&◌, ◌+◌, ◌*◌, ◌/◌, ◌%◌, ◌<◌, Bool, true, false, List, [], ◌∷◌, ◌++◌, length, refl, sym, ◌∙◌, ap, inl, inr, arith, subst, Some, None}
 use Rattle.std.specs.Prelude.{if◌then◌else◌, slice_get}
 use Rattle.std.specs.List.{AllByRecursion as Every}
+use Rattle.std.proofs.lemmas.Bool.{and_parts}
 use Rattle.std.proofs.lemmas.Bool.Decides.{nat_tests}
 use Rattle.std.proofs.lemmas.List.Elements.{filter_map-append}
 use Rattle.pre_base.specs.declared.numbers.FrameNo.{FrameNo}
@@ -131,11 +132,6 @@ came w h a p e b r true on by is =
     let same : made ≡ r = cc is in
     let arc_is : e.arc ≡ a = grind (arith, nat_tests, (and_parts (e.arc == a) (e.prio == p) on).0) in
     subst (λ (x : RingEntry). ComesBy w h x.tick (coming_to a x.frame)) same (subst (λ y. ComesBy w h e.tick (coming_to y e.frame)) arc_is by)
-  where
-    and_parts : (b c : Bool) → (b && c) ≡ true → (b ≡ true) × (c ≡ true)
-    and_parts true true is = (refl, refl)
-    and_parts true false is = absurd (cc is)
-    and_parts false c is = absurd (cc is)
 
 entry_came : (w : Scenario) (h : History) (a p : ℕ) (e : PlainEvent) (r : RingEntry) → IsGrounded w h e → entry_on a p e ≡ Some r → ComesBy w h r.tick (coming_to a r.frame)
 entry_came w h a p (PlainEvent.enter e) r by is = came w h a p e true r ((e.arc == a) && (e.prio == p)) refl by is

@@ -1,19 +1,15 @@
 -- What the built-in network and streams give to the rules, where the script sends frames of the stream x at tick 0.
-use Rattle.std.proofs.Common.{ℕ, zero, suc, ◌≡◌, ◌≢◌, ◌+◌, ◌*◌, ◌/◌, ◌%◌, ◌-◌, ◌<◌, ◌≤◌, List, [], ◌∷◌, ◌++◌, length, refl, sym, ◌∙◌, ap, arith, subst, Some, map, codes}
-use Rattle.std.specs.Prelude.{slice_index_or, slice_get, unwrap_or}
+use Rattle.std.proofs.Common.{ℕ, zero, suc, ◌≡◌, ◌≢◌, ◌+◌, ◌*◌, ◌/◌, ◌%◌, ◌-◌, ◌<◌, ◌≤◌, List, [], ◌∷◌, ◌++◌, length, refl, sym, ◌∙◌, ap, arith, subst, Some, map, codes, ◌==◌, ◌&&◌, Bool, true, false, Option, None, filter_map}
+use Rattle.std.specs.Prelude.{slice_index_or, slice_get, unwrap_or, if◌then◌else◌, Contains, flat_map, option_map, option_and_then}
 use Rattle.pre_topo.specs.declared.arcs.Arc.{Arc}
 use Rattle.pre_topo.specs.declared.arcs.Mode.TheVariants as mode
 use Rattle.pre_topo.specs.Pair.{pair_arcs}
 use Rattle.pre_streams.specs.declared.rows.Row.{Row}
 use Rattle.pre_streams.specs.Pair.{pair_row}
-use Rattle.pre_trace.specs.Scenario.{Scenario, arc, row, send, no_arc, no_row, FrameOf}
+use Rattle.pre_trace.specs.Scenario.{Scenario, arc, row, send, no_arc, no_row, FrameOf, latency}
 use Rattle.pre_trace.specs.Moments.{Phase, Moment, moment_at, phase_at}
-use Rattle.pre_trace.specs.History.{History}
-use Rattle.pre_trace.specs.Comings.{Coming, hops, first_arc, next_arc, after, relayed, frame_at}
-use Rattle.std.specs.Prelude.{if◌then◌else◌, Contains, flat_map, option_map, option_and_then}
-use Rattle.std.proofs.Common.{◌==◌, ◌&&◌, Bool, true, false, Option, None, filter_map}
-use Rattle.pre_trace.specs.Scenario.{latency}
-use Rattle.pre_trace.specs.History.{Arrive}
+use Rattle.pre_trace.specs.History.{History, Arrive}
+use Rattle.pre_trace.specs.Comings.{Coming, hops, first_arc, next_arc, after, relayed, frame_at, sends_from}
 use Rattle.pre_trace.specs.Selected.{is_frame_result}
 use Rattle.pre_trace.specs.Queries.{Arrivals}
 use Rattle.pre_trace.proofs.Lists.{every_placed, none_selected}
@@ -22,7 +18,6 @@ use Rattle.pre_trace.specs.Legal.{LegalUpTo}
 use Rattle.pre_trace.specs.Deliveries.{IsDirect, IsPlain}
 use Rattle.pre_topo.specs.PairNetwork.{IsPair}
 use Rattle.pre_streams.specs.PairStreams as streams
-use Rattle.pre_trace.specs.Comings.{sends_from}
 use Rattle.pre_trace.proofs.Undamaged.{length-FrameOf}
 use Rattle.pre_trace.proofs.Moments.{legal_idle}
 

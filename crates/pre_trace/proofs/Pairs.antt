@@ -4,7 +4,7 @@ use Rattle.std.specs.Prelude.{slice_get, flat_map, AllPairs}
 use Rattle.std.specs.List.{AllByRecursion as Every, cons_option}
 use Rattle.std.proofs.lemmas.List.Kept.{AllPairs-cons}
 use Rattle.std.proofs.lemmas.List.Elements.{All-from_recursion}
-use Rattle.pre_trace.proofs.Lists.{every-append, every_weaker, every_placed, every_selected, every_at}
+use Rattle.pre_trace.proofs.Lists.{every-append, every_placed, every_selected, every_at}
 
 -- R holds of each element and each later one
 abbrev pub Pairs : {X : Type 0} → (X → X → Type 0) → List X → Type 0
@@ -18,10 +18,6 @@ all_pairs R (x ∷ xs) (here, more) = AllPairs-cons R x xs (All-from_recursion (
 pub pairs-append : {X : Type 0} (R : X → X → Type 0) (xs ys : List X) → Pairs R xs → Pairs R ys → Every (λ x. Every (R x) ys) xs → Pairs R (xs ++ ys)
 pairs-append R [] ys p q across = q
 pairs-append R (x ∷ xs) ys (here, more) q (first, others) = (every-append (R x) xs ys here first, pairs-append R xs ys more q others)
-
-pub pairs_weaker : {X : Type 0} (R S : X → X → Type 0) → ((x y : X) → R x y → S x y) → (xs : List X) → Pairs R xs → Pairs S xs
-pairs_weaker R S weak [] p = tt
-pairs_weaker R S weak (x ∷ xs) (here, more) = (every_weaker (R x) (S x) (weak x) xs here, pairs_weaker R S weak xs more)
 
 -- lists in a row
 pub every_flat : {X Y : Type 0} (P : Y → Type 0) (Q : X → Type 0) (g : X → List Y) → ((x : X) → Q x → Every P (g x)) → (xs : List X) → Every Q xs → Every P (flat_map g xs)

@@ -2,6 +2,7 @@
 use Rattle.std.proofs.Common.{ℕ, zero, suc, ◌≡◌, ◌==◌, ◌&&◌, ◌+◌, ◌<◌, Bool, true, false, List, [], ◌∷◌, ◌++◌, length, refl, sym, ◌∙◌, ap, inl, inr, ◌⊎◌, arith, subst, Option, Some, None, filter_map}
 use Rattle.std.specs.Prelude.{if◌then◌else◌, slice_get, slice_index_or, flat_map, option_map, option_and_then}
 use Rattle.std.specs.List.{AllByRecursion as Every}
+use Rattle.std.proofs.lemmas.Bool.{and_parts}
 use Rattle.std.proofs.lemmas.Bool.Decides.{nat_tests}
 use Rattle.std.proofs.lemmas.List.Elements.{filter_map-append}
 use Rattle.pre_script.specs.declared.scripts.SendLine.{SendLine}
@@ -69,11 +70,6 @@ comes_later w past es t c (inr (a, lt, r)) = inr (
 )
 
 -- ---- each coming is one of these
-
-and_parts : (b c : Bool) → (b && c) ≡ true → (b ≡ true) × (c ≡ true)
-and_parts true true is = (refl, refl)
-and_parts true false is = absurd (cc is)
-and_parts false c is = absurd (cc is)
 
 module _ (w : Scenario) (past : History) (t : ℕ) where
   pub relay_of : (a i : ℕ) (x : Arrive) (c : Coming) → slice_get (Arrivals past a) i ≡ Some x → relayed w past t a x ≡ Some c → (r : IsRelayed w past t a c) × (r.place ≡ i)
