@@ -49,6 +49,7 @@ pub record IsRelayed (w : Scenario) (past : History) (t a : ℕ) (c : Coming) : 
   pub over : x.tick + latency w a ≡ t
   pub next : next_arc w a c.frame ≡ Some c.arc
 
+-- a frame comes to a ring at the tick by one of these
 abbrev pub ComesBy : Scenario → History → ℕ → Coming → Type 0
 ComesBy w past t c = IsSent w t c ⊎ ((a : ℕ) × (a < length w.net.arcs) × IsRelayed w past t a c)
 
@@ -69,7 +70,7 @@ comes_later w past es t c (inr (a, lt, r)) = inr (
   },
 )
 
--- ---- each coming is one of these
+-- ---- each coming of a tick does so
 
 module _ (w : Scenario) (past : History) (t : ℕ) where
   pub relay_of : (a i : ℕ) (x : Arrive) (c : Coming) → slice_get (Arrivals past a) i ≡ Some x → relayed w past t a x ≡ Some c → (r : IsRelayed w past t a c) × (r.place ≡ i)

@@ -78,7 +78,8 @@ pub fn deliveries_are_what_was_sent()
     pre_mpacket::one_given();
 }
 
-/// In a direct run a frame comes to a ring of each arc of its route once at most.
+/// In a direct run a frame comes to a ring of each arc of its route once at most: no two entries of a ring, drops among them,
+/// are of one frame, and what comes to rings at a tick neither came to those arcs before nor began on them.
 pub fn frames_come_once()
     ensures entries { (w : Scenario) → IsDirect w → (n : ℕ) (h : History) (a p : ℕ) → LegalUpTo w n h → AllPairs (λ d e. d.frame ≢ e.frame) (Entries h a p) }
     ensures comings { (w : Scenario) → IsDirect w → (t : ℕ) (past : History) → LegalUpTo w (number (length w.net.arcs) t (1 + 3 * length w.net.arcs)) past
