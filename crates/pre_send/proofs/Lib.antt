@@ -3,3 +3,4 @@ pub mod Beginning
 pub mod Waiting
 pub mod Ending
 pub mod Framed
+pub mod Giving

@@ -1,4 +1,4 @@
-ghost use Rattle.std.specs.Prelude.{◌≡◌, ◌↔◌, IsTrue, is_some, option_map, ℕ, ◌+◌, ◌*◌, ◌^◌, ◌≤◌, ◌<◌, true, false, take, drop, List, [], ◌∷◌, ◌++◌, Option, Some, None};
+ghost use Rattle.std.specs.Prelude.{◌≡◌, ◌↔◌, IsTrue, IsSome, is_some, option_map, ℕ, ◌+◌, ◌*◌, ◌^◌, ◌≤◌, ◌<◌, true, false, take, drop, List, [], ◌∷◌, ◌++◌, Option, Some, None};
 ghost use Rattle.std.specs.Option.{ForSome};
 ghost use Rattle.pre_rings.specs.Stores.{HoldsFrame};
 ghost use Rattle.pre_send.specs.Fragments.{next_fragment};
@@ -6,7 +6,7 @@ ghost use Rattle.pre_send.specs.Sendings.{octets_at};
 
 use crate::choices::{Choice, Sent};
 use crate::going::{Going, Task};
-use crate::pieces::{HEAD, Piece, first_cut};
+use crate::pieces::{HEAD, Piece, part_of};
 use pre_base::{FrameNo, Tick};
 use pre_crc::Running;
 use pre_mpacket::Kind;
@@ -41,6 +41,9 @@ impl Sender {
     ghost use Rattle.pre_send.specs.Sendings.{IsFree};
     ghost use Rattle.pre_send.specs.Answers.{IsFreeAt, EndsAt, IsInterrupted};
     ghost use Rattle.pre_send.specs.Endings.{Ends, plans_end, Holds, HoldsTask, EndsPiece, EndsTask};
+    ghost use Rattle.pre_mpacket.specs.Spelling.{PlainPacket, IsWhole};
+    ghost use Rattle.pre_send.specs.Tasks.{task_size};
+    ghost use Rattle.pre_send.specs.Lendings.{Lends, Gives};
     ghost use Rattle.pre_send.specs.Senders.{Stands, chosen, is_free, is_interrupted, MayBegin, Firsts, Rests, Chooses};
 
     /// A sender that has sent nothing, by the ticks for an octet and the link's additional fragment size.
@@ -135,6 +138,24 @@ impl Sender {
         self.going = Some(going.told(now.0, self.cost, self.add_frag));
     }
 
+    /// The mPacket under way, as it ends by the present plan: its kind, its mData and its check as sent (IEEE 802.3, 99.3).
+    /// The mData is lent out of the store, which holds its frame, or out of `other`, which is an LLDP frame of 64 octets, or
+    /// the 60 octets 0 of a verify or respond. Of all octets of the frame so far only those of this mPacket are looked at.
+    #[tactic(auto, unfolding(crate::specs::Endings::plans_end, crate::specs::Endings::Holds, crate::specs::Lendings::Lends))]
+    pub fn mpacket<'a>(&self, store: &'a FrameStore, other: &'a [u8]) -> (Kind, &'a [u8], [u8; 4])
+        requires going { IsSome (plans_end self.now) }
+        requires holds { Holds self.now store.now }
+        requires other { Lends self.now other.now }
+        ensures given { (cost add_frag : ℕ) (calls : List Call) → Stands self.now cost add_frag calls
+            → Gives cost add_frag calls store.now other.now (record { kind = result.0; mdata = result.1.now; check = result.2 }) }
+        ensures whole { IsWhole (record { kind = result.0; mdata = result.1.now; check = result.2 }) }
+    {
+        match &self.going {
+            Some(going) => going.task.packet(store, other),
+            None => unreachable!(),
+        }
+    }
+
     /// Tells that the mPacket under way has ended, and what it was. The store holds its frame.
     #[tactic(auto, unfolding(crate::specs::Endings::plans_end, crate::specs::Endings::Holds))]
     pub fn finish(&mut self, now: Tick, store: &FrameStore) -> Sent
@@ -216,7 +237,8 @@ impl Sender {
     #[tactic(auto, unfolding(crate::specs::Senders::is_interrupted))]
     fn task_of(&mut self, choice: Choice) -> Task
         requires { MayBegin self.old choice }
-        ensures { Chooses choice self.old self.new result }
+        ensures chooses { Chooses choice self.old self.new result }
+        ensures size { 64 ≤ task_size result }
     {
         match choice {
             Choice::Express(frame) => Task::Frame(frame),
@@ -233,7 +255,8 @@ impl Sender {
     fn first(&mut self, frame: FrameRef) -> Task
         requires least { 64 ≤ frame.size }
         requires most { frame.size ≤ 1522 }
-        ensures { Firsts self.old self.new frame result }
+        ensures first { Firsts self.old self.new frame result }
+        ensures size { 64 ≤ task_size result }
     {
         let frame_count = self.frame_count;
         self.frame_count = (frame_count + 1) % 4;
@@ -251,7 +274,8 @@ impl Sender {
     #[tactic(auto, unfolding(crate::specs::Senders::is_interrupted))]
     fn rest(&mut self) -> Task
         requires { is_interrupted self.old ≡ true }
-        ensures { Rests self.old self.new result }
+        ensures rest { Rests self.old self.new result }
+        ensures size { 64 ≤ task_size result }
     {
         match self.kept.take() {
             Some(piece) => Task::Fragment(piece),
@@ -266,17 +290,6 @@ fn next_fragment(from: u16, fragment: u8) -> u8
     ensures { result ≡ next_fragment from fragment }
 {
     if from == 0 { 0 } else { (fragment + 1) % 4 }
-}
-
-// So many octets of a frame from a place on.
-fn part_of<'a>(store: &'a FrameStore, frame: &FrameRef, from: u16, size: u16) -> &'a [u8]
-    requires held { HoldsFrame store.now frame.now }
-    requires within { from + size ≤ frame.now.size }
-    ensures { result.now ≡ take size (drop from (octets_at store.now frame.now.slot)) }
-{
-    let octets = store.octets(&frame.slot);
-    let from = usize::from(from);
-    &octets[from..from + usize::from(size)]
 }
 
 // What has 60 octets of mData and is no user frame.
