@@ -4,3 +4,6 @@ pub mod Waiting
 pub mod Ending
 pub mod Framed
 pub mod Giving
+pub mod Joining
+pub mod Carried
+pub mod OneSending

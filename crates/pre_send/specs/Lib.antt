@@ -11,3 +11,4 @@ pub mod Endings
 pub mod Frames
 pub mod Packets
 pub mod Lendings
+pub mod Carrying
