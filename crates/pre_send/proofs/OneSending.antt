@@ -1,5 +1,6 @@
 -- Calls tell of one list of mPackets, and what went in one piece.
 use Rattle.std.proofs.Common.{ℕ, ◌≡◌, ◌⊎◌, ◌≤◌, ◌+◌, ◌-◌, ◌%◌, List, [], ◌∷◌, ◌++◌, length, map, take, drop, refl, sym, ◌∙◌, ap, ap₂, subst, arith, inl, inr, Option, Some, None, true, false}
+use Rattle.std.proofs.lemmas.List.Sums.{fold-append}
 use Rattle.std.proofs.lemmas.List.{take-append-drop, length-drop}
 use Rattle.pre_mpacket.specs.declared.packets.Kind.{Kind}
 use Rattle.pre_mpacket.specs.declared.packets.Kind.TheVariants as kind
@@ -7,11 +8,12 @@ use Rattle.pre_mpacket.specs.Spelling.{PlainPacket}
 use Rattle.pre_mpacket.specs.CutSizes.{cut_one}
 use Rattle.pre_rings.specs.declared.slots.FrameRef.{FrameRef}
 use Rattle.pre_rings.specs.Stores.{HoldsAt}
-use Rattle.pre_send.specs.Calls.{Chosen, express, whole, first, rest, verify, respond, lldp, Told}
-use Rattle.pre_send.specs.Sendings.{Sending, Part, held, octets_at, interrupted, firsts, Waits, IsCut, Follows, AreSent}
+use Rattle.pre_send.specs.Calls.{Chosen, express, whole, first, rest, verify, respond, lldp, Call, ended, Told, tells, told_by}
+use Rattle.pre_send.specs.Sendings.{Sending, Part, held, octets_at, interrupted, firsts, Waits, IsCut, Follows, AreSent, IsSending}
 use Rattle.pre_send.specs.Answers.{is_part}
 use Rattle.pre_send.specs.Endings.{done_by}
-use Rattle.pre_send.specs.Packets.{packet_by}
+use Rattle.pre_send.specs.Packets.{packet_by, packet_after}
+use Rattle.pre_send.proofs.Ending.{with_end, follows_still}
 
 -- an mPacket by its parts
 same_parts : (p q : Sending) → p.told ≡ q.told → p.kind ≡ q.kind → p.from ≡ q.from → p.size ≡ q.size → p ≡ q
@@ -51,6 +53,30 @@ module _ (cost add_frag : ℕ) where
       let follows : Follows cost add_frag p.told.chosen xs q =
       subst (λ (l : List Sending). Follows cost add_frag p.told.chosen l q) (sym older) (subst (λ (t : Told). Follows cost add_frag t.chosen ys q) (sym told) b.0) in
       ap₂ (λ (r : Sending) (l : List Sending). r ∷ l) (one_follows p.told.chosen xs p q told a.0 follows) older
+
+  pub one_ending : (t : ℕ) (calls : List Call) (store : List (Option (List ℕ))) (other : List ℕ) (p : Sending) (older packets : List Sending)
+      → IsSending cost add_frag calls (p ∷ older) → IsSending cost add_frag (calls ++ ended t store ∷ []) packets
+      → (q : Sending) × (packets ≡ q ∷ older) × (q.told.end ≡ Some (record { tick = t; store = store })) × (packet_after older q store other ≡ packet_after older p store other)
+  unfolding with_end
+  one_ending t calls store other p older packets a b =
+      let q = with_end p (record { tick = t; store = store }) in
+      let told : told_by (calls ++ ended t store ∷ []) ≡ map (λ r. r.told) (q ∷ older) = fold-append tells [] calls (ended t store ∷ []) ∙ ap (λ (l : List Told). tells l (ended t store)) a.told in
+      (
+        q,
+        one_list packets (q ∷ older) (sym b.told ∙ told) b.sent (follows_still cost add_frag p.told.chosen older p (record { tick = t; store = store }) a.sent.0, a.sent.1),
+        refl,
+        same_packet p.told.chosen (interrupted older),
+      )
+    where
+      same_packet : (ch : Chosen) (before : Option Part) → packet_by ch before (with_end p (record { tick = t; store = store })) store other ≡ packet_by ch before p store other
+      same_packet (express f) before = refl
+      same_packet (whole f) before = refl
+      same_packet (first f) before = refl
+      same_packet rest None = refl
+      same_packet rest (Some x) = refl
+      same_packet verify before = refl
+      same_packet respond before = refl
+      same_packet lldp before = refl
 
 -- ---- a frame in one piece
 

@@ -5,6 +5,8 @@ use Rattle.pre_crc.specs.Register as register
 use Rattle.pre_mpacket.specs.declared.packets.Kind.TheVariants as kind
 use Rattle.pre_mpacket.specs.Spelling.{PlainPacket}
 use Rattle.pre_rings.specs.declared.slots.FrameRef.{FrameRef}
+use Rattle.pre_send.specs.declared.choices.Choice.{Choice}
+use Rattle.pre_send.specs.declared.choices.Choice.TheVariants as choice
 use Rattle.pre_send.specs.declared.pieces.Piece.{Piece}
 use Rattle.pre_send.specs.declared.going.Task.{Task}
 use Rattle.pre_send.specs.declared.going.Task.TheVariants as task
@@ -48,6 +50,12 @@ LendsGoing (Some g) other = LendsTask g.task other
 
 unfoldable pub Lends : Sender → List ℕ → Type 0
 Lends s other = LendsGoing s.going other
+
+abbrev pub LendsChoice : Choice → List ℕ → Type 0
+LendsChoice choice.Verify other = other ≡ replicate 60 0
+LendsChoice choice.Respond other = other ≡ replicate 60 0
+LendsChoice choice.Lldp other = length other ≡ 64
+LendsChoice _ other = Unit {0}
 
 -- ---- what the fields give
 

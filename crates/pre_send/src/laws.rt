@@ -1,10 +1,10 @@
-ghost use Rattle.std.specs.Prelude.{◌≡◌, ◌⊎◌, ◌≤◌, ℕ, List, ◌∷◌, ◌++◌, Option, Some, true, false, length, take};
+ghost use Rattle.std.specs.Prelude.{◌≡◌, ◌⊎◌, ◌≤◌, ℕ, List, [], ◌∷◌, ◌++◌, Option, Some, true, false, length, take};
 ghost use Rattle.pre_mpacket.specs.declared.packets.Kind.TheVariants as kind;
 ghost use Rattle.pre_mpacket.specs.Pieces.{joined, Carries};
 ghost use Rattle.pre_rings.specs.declared.slots.FrameRef.{FrameRef};
 ghost use Rattle.pre_rings.specs.Stores.{HoldsAt};
 ghost use Rattle.pre_send.specs.declared.senders.Sender.{Sender};
-ghost use Rattle.pre_send.specs.Calls.{Call, express, whole};
+ghost use Rattle.pre_send.specs.Calls.{Call, ended, express, whole};
 ghost use Rattle.pre_send.specs.Sendings.{Sending, Part, interrupted, IsSending};
 ghost use Rattle.pre_send.specs.Answers.{is_part};
 ghost use Rattle.pre_send.specs.Frames.{HoldsNewest};
@@ -31,6 +31,14 @@ pub fn others_law()
 pub fn one_sending()
     ensures { (cost add_frag : ℕ) (calls : List Call) (xs ys : List Sending)
         → IsSending cost add_frag calls xs → IsSending cost add_frag calls ys → xs ≡ ys }
+{}
+
+/// The mPacket that ends is the one that was under way, with the octets that it had by the same frames.
+pub fn ending_law()
+    ensures { (cost add_frag t : ℕ) (calls : List Call) (store : List (Option (List ℕ))) (other : List ℕ) (p : Sending) (older packets : List Sending)
+        → IsSending cost add_frag calls (p ∷ older) → IsSending cost add_frag (calls ++ ended t store ∷ []) packets
+        → (q : Sending) × (packets ≡ q ∷ older) × (q.told.end ≡ Some (record { tick = t; store = store }))
+        × (packet_after older q store other ≡ packet_after older p store other) }
 {}
 
 /// Where the store at the end of each of its fragments holds the same octets of a frame, the fragments of a finished one

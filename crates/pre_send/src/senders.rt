@@ -40,18 +40,20 @@ impl Sender {
     ghost use Rattle.pre_send.specs.Calls.{Call, begun, waited, ended, told_by};
     ghost use Rattle.pre_send.specs.Sendings.{IsFree};
     ghost use Rattle.pre_send.specs.Answers.{IsFreeAt, EndsAt, IsInterrupted};
-    ghost use Rattle.pre_send.specs.Endings.{Ends, plans_end, Holds, HoldsTask, EndsPiece, EndsTask};
+    ghost use Rattle.pre_send.specs.Endings.{Ends, plans_end, Holds, HoldsAll, HoldsChoice, HoldsTask, EndsPiece, EndsTask};
     ghost use Rattle.pre_mpacket.specs.Spelling.{PlainPacket, IsWhole};
     ghost use Rattle.pre_send.specs.Tasks.{task_size};
-    ghost use Rattle.pre_send.specs.Lendings.{Lends, Gives};
+    ghost use Rattle.pre_send.specs.Lendings.{Lends, LendsChoice, Gives};
     ghost use Rattle.pre_send.specs.Senders.{Stands, chosen, is_free, is_interrupted, MayBegin, Firsts, Rests, Chooses};
 
     /// A sender that has sent nothing, by the ticks for an octet and the link's additional fragment size.
+    #[tactic(auto, unfolding(crate::specs::Endings::Holds, crate::specs::Endings::HoldsAll))]
     pub fn idle(cost: u64, add_frag: u8) -> Sender
         requires cost { 1 ≤ cost }
         requires most { cost ≤ 1000 }
         requires add_frag { add_frag ≤ 3 }
-        ensures { Stands result cost add_frag [] }
+        ensures stands { Stands result cost add_frag [] }
+        ensures holds { (store : List (Option (List ℕ))) → HoldsAll result store }
     {
         Sender {
             cost,
@@ -112,11 +114,15 @@ impl Sender {
     }
 
     /// Tells that an mPacket begins.
+    #[tactic(auto, unfolding(crate::specs::Endings::plans_end, crate::specs::Endings::Holds, crate::specs::Endings::HoldsAll, crate::specs::Lendings::Lends))]
     pub fn begin(&mut self, now: Tick, choice: Choice)
         requires free { is_free self.old now.0 ≡ true }
         requires may { MayBegin self.old choice }
         requires within { now.0 ≤ 10 ^ 18 }
-        ensures { (cost add_frag : ℕ) (calls : List Call) → Stands self.old cost add_frag calls → Stands self.new cost add_frag (calls ++ begun now.0 (chosen choice) ∷ []) }
+        ensures stands { (cost add_frag : ℕ) (calls : List Call) → Stands self.old cost add_frag calls → Stands self.new cost add_frag (calls ++ begun now.0 (chosen choice) ∷ []) }
+        ensures going { IsSome (plans_end self.new) }
+        ensures holds { (store : List (Option (List ℕ))) → HoldsAll self.old store → HoldsChoice choice store → HoldsAll self.new store }
+        ensures lends { (other : List ℕ) → LendsChoice choice other → Lends self.new other }
     {
         let task = self.task_of(choice);
         self.going = Some(Going {
@@ -128,9 +134,14 @@ impl Sender {
 
     /// Tells that an express frame waits from now on until the mPacket under way has ended, which fixes where a fragment is
     /// cut. With none under way it changes nothing. Ticks never fall from call to call.
+    #[tactic(auto, unfolding(crate::specs::Endings::plans_end, crate::specs::Endings::Holds, crate::specs::Endings::HoldsAll, crate::specs::Lendings::Lends))]
     pub fn express_waits(&mut self, now: Tick)
         requires { now.0 ≤ 10 ^ 18 }
-        ensures { (cost add_frag : ℕ) (calls : List Call) → Stands self.old cost add_frag calls → Stands self.new cost add_frag (calls ++ waited now.0 ∷ []) }
+        ensures stands { (cost add_frag : ℕ) (calls : List Call) → Stands self.old cost add_frag calls → Stands self.new cost add_frag (calls ++ waited now.0 ∷ []) }
+        ensures idle { plans_end self.old ≡ None → self.new ≡ self.old }
+        ensures going { IsSome (plans_end self.old) → IsSome (plans_end self.new) }
+        ensures holds { (store : List (Option (List ℕ))) → HoldsAll self.old store → HoldsAll self.new store }
+        ensures lends { (other : List ℕ) → Lends self.old other → Lends self.new other }
     {
         let Some(going) = self.going.take() else {
             return;
@@ -157,12 +168,13 @@ impl Sender {
     }
 
     /// Tells that the mPacket under way has ended, and what it was. The store holds its frame.
-    #[tactic(auto, unfolding(crate::specs::Endings::plans_end, crate::specs::Endings::Holds))]
+    #[tactic(auto, unfolding(crate::specs::Endings::plans_end, crate::specs::Endings::Holds, crate::specs::Endings::HoldsAll))]
     pub fn finish(&mut self, now: Tick, store: &FrameStore) -> Sent
         requires due { plans_end self.old ≡ Some now.0 }
         requires holds { Holds self.old store.now }
         requires within { now.0 ≤ 2 * 10 ^ 18 }
         ensures stands { (cost add_frag : ℕ) (calls : List Call) → Stands self.old cost add_frag calls → Stands self.new cost add_frag (calls ++ ended now.0 store.now ∷ []) }
+        ensures holds { HoldsAll self.old store.now → HoldsAll self.new store.now }
         ensures sent { (cost add_frag : ℕ) (calls : List Call) → Stands self.old cost add_frag calls → Ends cost add_frag (calls ++ ended now.0 store.now ∷ []) result }
     {
         let Some(going) = self.going.take() else {
