@@ -33,8 +33,8 @@ not_equal m n is same = elim (eqb_tells m n) [
 done_is : (p : Sending) (f g : FrameRef) → done_of f p ≡ Some g → ((p.from + p.size == f.size) ≡ true) × (p.from + p.size ≡ f.size) × (f ≡ g)
 done_is p f g is = elim (eqb_tells (p.from + p.size) f.size) [
   | inl same ↦
-    let some : Some f ≡ Some g = sym (ap (λ (b : Bool). if b then Some f else None) same.0) ∙ is in
-    let one : f ≡ g = cc some in (same.0, same.1, one)
+      let some : Some f ≡ Some g = sym (ap (λ (b : Bool). if b then Some f else None) same.0) ∙ is in
+      let one : f ≡ g = cc some in (same.0, same.1, one)
   | inr other ↦ let none : None ≡ Some g = sym (ap (λ (b : Bool). if b then Some f else None) other.0) ∙ is in absurd (cc none)
 ]
 
@@ -98,10 +98,10 @@ module _ (cost add_frag : ℕ) (octets : List ℕ) where
         let m = fragment_of f octets before p in
         let check : m.check ≡ drop (p.from + (p.size - 4)) octets = ap (λ (b : Bool). check_at b octets (p.from + (p.size - 4)) (before ++ part_at octets p.from p.size)) test in
         carried ms m add_frag ((n + 3) % 4) p.from (p.size - 4) octets sequence joins checked long refl check (
-          λ more.
-              let left : p.from + 64 ≤ f.size = some more in
-              let fits : p.size - 4 ≤ length (drop p.from octets) = omega (arith, length-drop p.from octets, last, left, size_is) in
-              omega (arith, left, last, size_is, length-take-le (p.size - 4) (drop p.from octets) fits, ap length check, length-drop (p.from + (p.size - 4)) octets)
+        λ more.
+        let left : p.from + 64 ≤ f.size = some more in
+        let fits : p.size - 4 ≤ length (drop p.from octets) = omega (arith, length-drop p.from octets, last, left, size_is) in
+        omega (arith, left, last, size_is, length-take-le (p.size - 4) (drop p.from octets) fits, ap length check, length-drop (p.from + (p.size - 4)) octets)
         )
 
   -- ---- an mPacket after these
@@ -134,22 +134,22 @@ module _ (cost add_frag : ℕ) (octets : List ℕ) where
         let left = left_is (p.from + p.size == f.size) (part_made f [] 0 p) x is in
         subst (λ (z : Part). IsHeld z.frame octets p.told.end → length octets ≡ z.frame.size → SoFar octets add_frag (1 + firsts older) (fragment_of f (octets_at store f.slot) [] p ∷ []) z) left.1
         (λ h size_is. subst (λ (o : List ℕ). SoFar octets add_frag (1 + firsts older) (fragment_of f o [] p ∷ []) (part_made f [] 0 p)) (sym (held_octets f octets p.told.end h))
-            (grown f [] 0 (1 + firsts older) f.size [] p (first_sequence f follows) (first_data f follows) tt tt (omega (arith, follows.1)) size_is refl (first_data f follows) left.0 follows.2 h))
+        (grown f [] 0 (1 + firsts older) f.size [] p (first_sequence f follows) (first_data f follows) tt tt (omega (arith, follows.1)) size_is refl (first_data f follows) left.0 follows.2 h))
         each size
     one_more rest x (y, interrupts, kind_is, from, cut) is each size =
         let is_left : after_fragment y.frame y.so_far (suc y.continuations) p ≡ Some x = sym (ap (λ (o : Option Part). after_rest o p) interrupts) ∙ is in
         let left = left_is (p.from + p.size == y.frame.size) (part_made y.frame y.so_far (suc y.continuations) p) x is_left in
         subst (λ (z : Part). IsHeld z.frame octets p.told.end × EachHeld z.frame octets older → length octets ≡ z.frame.size
-            → SoFar octets add_frag (0 + firsts older) (fragments older ++ rest_of (interrupted older) p store ∷ []) z) left.1
+        → SoFar octets add_frag (0 + firsts older) (fragments older ++ rest_of (interrupted older) p store ∷ []) z) left.1
         (λ h size_is.
-            let so_far = earlier y interrupts h.1 size_is in
-            subst (λ (k : ℕ). SoFar octets add_frag k (fragments older ++ rest_of (interrupted older) p store ∷ []) (part_made y.frame y.so_far (suc y.continuations) p)) (omega arith)
-            (subst (λ (o : Option Part). SoFar octets add_frag (firsts older) (fragments older ++ rest_of o p store ∷ []) (part_made y.frame y.so_far (suc y.continuations) p)) (sym interrupts)
-            (subst (λ (o : List ℕ). SoFar octets add_frag (firsts older) (fragments older ++ fragment_of y.frame o y.so_far p ∷ []) (part_made y.frame y.so_far (suc y.continuations) p))
-                (sym (held_octets y.frame octets p.told.end h.0))
-            (grown y.frame y.so_far (suc y.continuations) (firsts older) (y.frame.size - y.place) (fragments older) p (rest_sequence y so_far kind_is)
-                (so_far.joins ∙ ap (λ n. take n octets) (sym from)) so_far.checked so_far.long (omega (arith, from, so_far.left)) size_is so_far.count
-                (so_far.same ∙ ap (λ n. take n octets) (sym from)) left.0 cut h.0))))
+        let so_far = earlier y interrupts h.1 size_is in
+        subst (λ (k : ℕ). SoFar octets add_frag k (fragments older ++ rest_of (interrupted older) p store ∷ []) (part_made y.frame y.so_far (suc y.continuations) p)) (omega arith)
+        (subst (λ (o : Option Part). SoFar octets add_frag (firsts older) (fragments older ++ rest_of o p store ∷ []) (part_made y.frame y.so_far (suc y.continuations) p)) (sym interrupts)
+        (subst (λ (o : List ℕ). SoFar octets add_frag (firsts older) (fragments older ++ fragment_of y.frame o y.so_far p ∷ []) (part_made y.frame y.so_far (suc y.continuations) p))
+        (sym (held_octets y.frame octets p.told.end h.0))
+        (grown y.frame y.so_far (suc y.continuations) (firsts older) (y.frame.size - y.place) (fragments older) p (rest_sequence y so_far kind_is)
+        (so_far.joins ∙ ap (λ n. take n octets) (sym from)) so_far.checked so_far.long (omega (arith, from, so_far.left)) size_is so_far.count
+        (so_far.same ∙ ap (λ n. take n octets) (sym from)) left.0 cut h.0))))
         each size
 
     last_one : (ch : Chosen) (f : FrameRef) → Follows cost add_frag ch older p → is_part ch ≡ true → done_by ch (interrupted older) p ≡ Some f → HeldBy ch f octets p.told.end (EachHeld f octets older)
@@ -163,18 +163,18 @@ module _ (cost add_frag : ℕ) (octets : List ℕ) where
         let done = done_is p f x is in
         subst (λ (z : FrameRef). IsHeld z octets p.told.end → length octets ≡ z.size → Carries octets add_frag (fragment_of f (octets_at store f.slot) [] p ∷ [])) done.2
         (λ h size_is. subst (λ (o : List ℕ). Carries octets add_frag (fragment_of f o [] p ∷ [])) (sym (held_octets f octets p.told.end h))
-            (ended f [] 0 (1 + firsts older) f.size [] p (first_sequence f follows) (first_data f follows) tt tt (omega (arith, follows.1)) size_is done.0 done.1 (λ more. absurd (omega (arith, more)))))
+        (ended f [] 0 (1 + firsts older) f.size [] p (first_sequence f follows) (first_data f follows) tt tt (omega (arith, follows.1)) size_is done.0 done.1 (λ more. absurd (omega (arith, more)))))
         each size
     last_one rest x (y, interrupts, kind_is, from, cut) part is each size =
         let is_done : done_of y.frame p ≡ Some x = sym (ap (λ (o : Option Part). done_rest o p) interrupts) ∙ is in
         let done = done_is p y.frame x is_done in
         subst (λ (z : FrameRef). IsHeld z octets p.told.end × EachHeld z octets older → length octets ≡ z.size → Carries octets add_frag (fragments older ++ rest_of (interrupted older) p store ∷ [])) done.2
         (λ h size_is.
-            let so_far = earlier y interrupts h.1 size_is in
-            subst (λ (o : Option Part). Carries octets add_frag (fragments older ++ rest_of o p store ∷ [])) (sym interrupts)
-            (subst (λ (o : List ℕ). Carries octets add_frag (fragments older ++ fragment_of y.frame o y.so_far p ∷ [])) (sym (held_octets y.frame octets p.told.end h.0))
-            (ended y.frame y.so_far (suc y.continuations) (firsts older) (y.frame.size - y.place) (fragments older) p (rest_sequence y so_far kind_is)
-                (so_far.joins ∙ ap (λ n. take n octets) (sym from)) so_far.checked so_far.long (omega (arith, from, so_far.left)) size_is done.0 done.1 (λ more. omega (arith, from, so_far.left)))))
+        let so_far = earlier y interrupts h.1 size_is in
+        subst (λ (o : Option Part). Carries octets add_frag (fragments older ++ rest_of o p store ∷ [])) (sym interrupts)
+        (subst (λ (o : List ℕ). Carries octets add_frag (fragments older ++ fragment_of y.frame o y.so_far p ∷ [])) (sym (held_octets y.frame octets p.told.end h.0))
+        (ended y.frame y.so_far (suc y.continuations) (firsts older) (y.frame.size - y.place) (fragments older) p (rest_sequence y so_far kind_is)
+        (so_far.joins ∙ ap (λ n. take n octets) (sym from)) so_far.checked so_far.long (omega (arith, from, so_far.left)) size_is done.0 done.1 (λ more. omega (arith, from, so_far.left)))))
         each size
 
   pub so_far : (packets : List Sending) → AreSent cost add_frag packets → (x : Part) → interrupted packets ≡ Some x → EachHeld x.frame octets packets → length octets ≡ x.frame.size

@@ -81,9 +81,9 @@ module _ (kept : Option Piece) (p : Sending) (older : List Sending) (store : Lis
       by_choice (first x.frame) ch (by_cut x p (octets_at store x.frame.slot) [] m from kind_is size stands m_kind x.cut refl gives)
   task_gives (task.Fragment x) (none, from, kind_is, size, inr (ch, (part, interrupts, left))) (m_kind, gives) =
       by_choice rest ch (
-        by_cut x p (octets_at store x.frame.slot) part.so_far m from kind_is size left.check m_kind x.cut refl gives
-        ∙ (ap (λ (f : FrameRef). fragment_of f (octets_at store f.slot) part.so_far p) left.frame
-        ∙ ap (λ (o : Option Part). rest_of o p store) (sym interrupts))
+      by_cut x p (octets_at store x.frame.slot) part.so_far m from kind_is size left.check m_kind x.cut refl gives
+      ∙ (ap (λ (f : FrameRef). fragment_of f (octets_at store f.slot) part.so_far p) left.frame
+      ∙ ap (λ (o : Option Part). rest_of o p store) (sym interrupts))
       )
 
 pub gives : (s : Sender) (cost add_frag : ℕ) (calls : List Call) (g : Going) (store : List (Option (List ℕ))) (other : List ℕ) (m : PlainPacket) → Stands s cost add_frag calls → s.going ≡ Some g

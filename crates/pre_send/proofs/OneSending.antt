@@ -60,8 +60,7 @@ module _ (cost add_frag : ℕ) where
   unfolding with_end
   one_ending t calls store other p older packets a b =
       let q = with_end p (record { tick = t; store = store }) in
-      let told : told_by (calls ++ ended t store ∷ []) ≡ map (λ r. r.told) (q ∷ older) = fold-append tells [] calls (ended t store ∷ []) ∙ ap (λ (l : List Told). tells l (ended t store)) a.told in
-      (
+      let told : told_by (calls ++ ended t store ∷ []) ≡ map (λ r. r.told) (q ∷ older) = fold-append tells [] calls (ended t store ∷ []) ∙ ap (λ (l : List Told). tells l (ended t store)) a.told in (
         q,
         one_list packets (q ∷ older) (sym b.told ∙ told) b.sent (follows_still cost add_frag p.told.chosen older p (record { tick = t; store = store }) a.sent.0, a.sent.1),
         refl,

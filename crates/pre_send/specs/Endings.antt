@@ -60,13 +60,18 @@ HoldsGoing (Some g) store = HoldsTask g.task store
 unfoldable pub Holds : Sender → List (Option (List ℕ)) → Type 0
 Holds s store = HoldsGoing s.going store
 
--- and the frame that is interrupted
+-- the store holds the frame that is interrupted
 abbrev pub HoldsPiece : Option Piece → List (Option (List ℕ)) → Type 0
 HoldsPiece None store = Unit {0}
 HoldsPiece (Some x) store = HoldsFrame store x.frame
 
-unfoldable pub HoldsAll : Sender → List (Option (List ℕ)) → Type 0
-HoldsAll s store = Holds s store × HoldsPiece s.kept store
+unfoldable pub HoldsKept : Sender → List (Option (List ℕ)) → Type 0
+HoldsKept s store = HoldsPiece s.kept store
+
+-- each frame that it has
+pub record HoldsAll (s : Sender) (store : List (Option (List ℕ))) : Type 0 where
+  pub going : Holds s store
+  pub kept : HoldsKept s store
 
 abbrev pub HoldsChoice : Choice → List (Option (List ℕ)) → Type 0
 HoldsChoice (choice.Express f) store = HoldsFrame store f

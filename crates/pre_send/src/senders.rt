@@ -1,4 +1,4 @@
-ghost use Rattle.std.specs.Prelude.{◌≡◌, ◌↔◌, IsTrue, IsSome, is_some, option_map, ℕ, ◌+◌, ◌*◌, ◌^◌, ◌≤◌, ◌<◌, true, false, take, drop, List, [], ◌∷◌, ◌++◌, Option, Some, None};
+ghost use Rattle.std.specs.Prelude.{◌≡◌, ◌↔◌, IsTrue, IsSome, IfSome, is_some, option_map, ℕ, ◌+◌, ◌*◌, ◌^◌, ◌≤◌, ◌<◌, true, false, take, drop, List, [], ◌∷◌, ◌++◌, Option, Some, None};
 ghost use Rattle.std.specs.Option.{ForSome};
 ghost use Rattle.pre_rings.specs.Stores.{HoldsFrame};
 ghost use Rattle.pre_send.specs.Fragments.{next_fragment};
@@ -47,7 +47,7 @@ impl Sender {
     ghost use Rattle.pre_send.specs.Senders.{Stands, chosen, is_free, is_interrupted, MayBegin, Firsts, Rests, Chooses};
 
     /// A sender that has sent nothing, by the ticks for an octet and the link's additional fragment size.
-    #[tactic(auto, unfolding(crate::specs::Endings::Holds, crate::specs::Endings::HoldsAll))]
+    #[tactic(auto, unfolding(crate::specs::Endings::Holds, crate::specs::Endings::HoldsKept))]
     pub fn idle(cost: u64, add_frag: u8) -> Sender
         requires cost { 1 ≤ cost }
         requires most { cost ≤ 1000 }
@@ -114,7 +114,7 @@ impl Sender {
     }
 
     /// Tells that an mPacket begins.
-    #[tactic(auto, unfolding(crate::specs::Endings::plans_end, crate::specs::Endings::Holds, crate::specs::Endings::HoldsAll, crate::specs::Lendings::Lends))]
+    #[tactic(auto, unfolding(crate::specs::Endings::plans_end, crate::specs::Endings::Holds, crate::specs::Endings::HoldsKept, crate::specs::Lendings::Lends))]
     pub fn begin(&mut self, now: Tick, choice: Choice)
         requires free { is_free self.old now.0 ≡ true }
         requires may { MayBegin self.old choice }
@@ -134,7 +134,7 @@ impl Sender {
 
     /// Tells that an express frame waits from now on until the mPacket under way has ended, which fixes where a fragment is
     /// cut. With none under way it changes nothing. Ticks never fall from call to call.
-    #[tactic(auto, unfolding(crate::specs::Endings::plans_end, crate::specs::Endings::Holds, crate::specs::Endings::HoldsAll, crate::specs::Lendings::Lends))]
+    #[tactic(auto, unfolding(crate::specs::Endings::plans_end, crate::specs::Endings::Holds, crate::specs::Endings::HoldsKept, crate::specs::Lendings::Lends))]
     pub fn express_waits(&mut self, now: Tick)
         requires { now.0 ≤ 10 ^ 18 }
         ensures stands { (cost add_frag : ℕ) (calls : List Call) → Stands self.old cost add_frag calls → Stands self.new cost add_frag (calls ++ waited now.0 ∷ []) }
@@ -168,13 +168,14 @@ impl Sender {
     }
 
     /// Tells that the mPacket under way has ended, and what it was. The store holds its frame.
-    #[tactic(auto, unfolding(crate::specs::Endings::plans_end, crate::specs::Endings::Holds, crate::specs::Endings::HoldsAll))]
+    #[tactic(auto, unfolding(crate::specs::Endings::plans_end, crate::specs::Endings::Holds, crate::specs::Endings::HoldsKept))]
     pub fn finish(&mut self, now: Tick, store: &FrameStore) -> Sent
         requires due { plans_end self.old ≡ Some now.0 }
         requires holds { Holds self.old store.now }
         requires within { now.0 ≤ 2 * 10 ^ 18 }
         ensures stands { (cost add_frag : ℕ) (calls : List Call) → Stands self.old cost add_frag calls → Stands self.new cost add_frag (calls ++ ended now.0 store.now ∷ []) }
         ensures holds { HoldsAll self.old store.now → HoldsAll self.new store.now }
+        ensures done { IfSome result.done (λ f. HoldsFrame store.now f) }
         ensures sent { (cost add_frag : ℕ) (calls : List Call) → Stands self.old cost add_frag calls → Ends cost add_frag (calls ++ ended now.0 store.now ∷ []) result }
     {
         let Some(going) = self.going.take() else {
@@ -188,7 +189,8 @@ impl Sender {
     // Ends what was under way.
     fn end_task(&mut self, task: Task, store: &FrameStore) -> Sent
         requires { HoldsTask task store.now }
-        ensures { EndsTask task self.old self.new store.now result }
+        ensures ends { EndsTask task self.old self.new store.now result }
+        ensures done { IfSome result.done (λ f. HoldsFrame store.now f) }
     {
         match task {
             Task::Frame(frame) => Sent {
@@ -207,7 +209,8 @@ impl Sender {
     // Ends a fragment: its frame is done, or it is kept.
     fn end_piece(&mut self, piece: Piece, store: &FrameStore) -> Sent
         requires { HoldsFrame store.now piece.frame }
-        ensures { EndsPiece self.old self.new piece store.now result }
+        ensures ends { EndsPiece self.old self.new piece store.now result }
+        ensures done { IfSome result.done (λ f. HoldsFrame store.now f) }
     {
         let kind = piece.kind();
         let size = piece.size();
