@@ -1,12 +1,11 @@
 -- The mPacket that is given while it is under way.
-use Rattle.std.proofs.Common.{ℕ, ◌≡◌, ◌≤◌, ◌<◌, ◌+◌, ◌-◌, List, [], ◌∷◌, ◌++◌, take, drop, refl, sym, ◌∙◌, ap, ap₂, subst, arith, inl, inr, Option, Some, None, true, false, Bool}
-use Rattle.std.specs.Prelude.{◌==◌, unwrap_or}
+use Rattle.std.proofs.Common.{ℕ, ◌≡◌, ◌≤◌, ◌+◌, ◌-◌, List, [], ◌∷◌, ◌++◌, take, drop, refl, sym, ◌∙◌, ap, ap₂, subst, arith, inl, inr, Option, Some, None, true, false, Bool}
+use Rattle.std.specs.Prelude.{◌==◌}
 use Rattle.std.proofs.lemmas.Bool.Decides.{eqb_tells}
 use Rattle.std.proofs.lemmas.List.{drop-drop}
 use Rattle.pre_crc.specs.Checks.{Mcrc}
 use Rattle.pre_crc.specs.Register as register
 use Rattle.pre_mpacket.specs.declared.packets.Kind.{Kind}
-use Rattle.pre_mpacket.specs.declared.packets.Kind.TheVariants as kind
 use Rattle.pre_mpacket.specs.Spelling.{PlainPacket}
 use Rattle.pre_rings.specs.declared.slots.FrameRef.{FrameRef}
 use Rattle.pre_send.specs.declared.pieces.Piece.{Piece}
@@ -18,7 +17,7 @@ use Rattle.pre_send.specs.Calls.{Chosen, express, whole, first, rest, verify, re
 use Rattle.pre_send.specs.Plans.{piece_kind, piece_size, size_planned}
 use Rattle.pre_send.specs.Sendings.{Sending, Part, octets_at, part_at, interrupted, Follows, IsSending}
 use Rattle.pre_send.specs.Packets.{in_one_piece, check_at, fragment_of, rest_of, bare, packet_by, packet_after}
-use Rattle.pre_send.specs.Lendings.{Gives, PieceGives, GivesPiece, GivesTask}
+use Rattle.pre_send.specs.Lendings.{Gives, PieceGives, GivesTask}
 use Rattle.pre_send.specs.Senders.{Does, IsAt, Stands}
 
 -- an mPacket by its three parts

@@ -1,5 +1,5 @@
 -- The octets of a frame, at the ends of the mPackets that carry it.
-use Rattle.std.specs.Prelude.{◌≡◌, ℕ, List, [], ◌∷◌, Option, Some, None}
+use Rattle.std.specs.Prelude.{ℕ, List, [], ◌∷◌, Option, Some, None}
 use Rattle.pre_rings.specs.declared.slots.FrameRef.{FrameRef}
 use Rattle.pre_rings.specs.Stores.{HoldsAt}
 use Rattle.pre_send.specs.Calls.{Chosen, first, rest, End}

@@ -4,7 +4,6 @@ use Rattle.pre_crc.specs.Checks.{Mcrc}
 use Rattle.pre_crc.specs.Register as register
 use Rattle.pre_mpacket.specs.declared.packets.Kind.TheVariants as kind
 use Rattle.pre_mpacket.specs.Spelling.{PlainPacket}
-use Rattle.pre_rings.specs.declared.slots.FrameRef.{FrameRef}
 use Rattle.pre_send.specs.declared.choices.Choice.{Choice}
 use Rattle.pre_send.specs.declared.choices.Choice.TheVariants as choice
 use Rattle.pre_send.specs.declared.pieces.Piece.{Piece}
@@ -14,7 +13,7 @@ use Rattle.pre_send.specs.declared.going.Going.{Going}
 use Rattle.pre_send.specs.declared.senders.Sender.{Sender}
 use Rattle.pre_send.specs.Calls.{Chosen, verify, respond, lldp, Call}
 use Rattle.pre_send.specs.Plans.{piece_kind}
-use Rattle.pre_send.specs.Sendings.{Sending, octets_at, interrupted, IsSending}
+use Rattle.pre_send.specs.Sendings.{Sending, octets_at, IsSending}
 use Rattle.pre_send.specs.Packets.{in_one_piece, bare, packet_after}
 
 -- ---- what is given

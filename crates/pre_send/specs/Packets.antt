@@ -1,5 +1,5 @@
 -- The mPackets that are sent, with their octets (IEEE 802.3, 99.3).
-use Rattle.std.specs.Prelude.{ℕ, suc, ◌+◌, ◌-◌, ◌==◌, Bool, true, false, List, [], ◌∷◌, ◌++◌, take, drop, replicate, Option, Some, None}
+use Rattle.std.specs.Prelude.{ℕ, ◌+◌, ◌-◌, ◌==◌, Bool, true, false, List, [], ◌∷◌, ◌++◌, take, drop, replicate, Option, Some, None}
 use Rattle.pre_crc.specs.Checks.{Mcrc}
 use Rattle.pre_mpacket.specs.declared.packets.Kind.{Kind}
 use Rattle.pre_mpacket.specs.Spelling.{PlainPacket}

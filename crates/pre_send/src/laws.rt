@@ -1,5 +1,6 @@
-ghost use Rattle.std.specs.Prelude.{◌≡◌, ◌⊎◌, ◌≤◌, ℕ, List, [], ◌∷◌, ◌++◌, Option, Some, true, false, length, take};
+ghost use Rattle.std.specs.Prelude.{◌≡◌, ◌⊎◌, ◌≤◌, ℕ, All, List, [], ◌∷◌, ◌++◌, Option, Some, true, false, length, take};
 ghost use Rattle.pre_mpacket.specs.declared.packets.Kind.TheVariants as kind;
+ghost use Rattle.pre_mpacket.specs.Spelling.{IsWhole};
 ghost use Rattle.pre_mpacket.specs.Pieces.{joined, Carries};
 ghost use Rattle.pre_rings.specs.declared.slots.FrameRef.{FrameRef};
 ghost use Rattle.pre_rings.specs.Stores.{HoldsAt};
@@ -42,13 +43,19 @@ pub fn ending_law()
 {}
 
 /// Where the store at the end of each of its fragments holds the same octets of a frame, the fragments of a finished one
-/// carry it (IEEE 802.3, 99.4), and those of an interrupted one have its octets up to the place where it goes on.
+/// carry it (IEEE 802.3, 99.4) and can be written as mPackets, and those of an interrupted one have its octets up to the
+/// place where it goes on.
 pub fn fragments_law()
     ensures finished { (cost add_frag : ℕ) (calls : List Call) (newer older : List Sending) (p : Sending) (f : FrameRef) (octets : List ℕ)
         → IsSending cost add_frag calls (newer ++ p ∷ older)
         → is_part p.told.chosen ≡ true → done_by p.told.chosen (interrupted older) p ≡ Some f
         → EachHeld f octets (p ∷ older) → length octets ≡ f.size
         → Carries octets add_frag (fragments (p ∷ older)) }
+    ensures whole { (cost add_frag : ℕ) (calls : List Call) (newer older : List Sending) (p : Sending) (f : FrameRef) (octets : List ℕ)
+        → IsSending cost add_frag calls (newer ++ p ∷ older)
+        → is_part p.told.chosen ≡ true → done_by p.told.chosen (interrupted older) p ≡ Some f
+        → EachHeld f octets (p ∷ older) → length octets ≡ f.size → 64 ≤ f.size
+        → All (λ m. IsWhole m) (fragments (p ∷ older)) }
     ensures interrupted { (cost add_frag : ℕ) (calls : List Call) (newer older : List Sending) (x : Part) (octets : List ℕ)
         → IsSending cost add_frag calls (newer ++ older) → interrupted older ≡ Some x
         → EachHeld x.frame octets older → length octets ≡ x.frame.size

@@ -1,4 +1,3 @@
-use Rattle.std.proofs.Common.{◌≡◌, Some}
 use Rattle.pre_send.proofs.Giving.{gives}
 use Rattle.pre_send.proofs.senders.Sender.mpacket.Goals as goal
 
