@@ -20,10 +20,10 @@ use Rattle.pre_send.specs.Endings.{done_of, done_by, Ends, GoesOn, PieceEnds, Sa
 use Rattle.pre_send.specs.Senders.{Keeps, Does, IsAt, Stands}
 
 -- the mPacket, ended
-pub with_end : Sending → End → Sending
+unfoldable pub with_end : Sending → End → Sending
 with_end p e = record p { told = record p.told { end = Some e } }
 
-follows_still : (cost add_frag : ℕ) (ch : Chosen) (older : List Sending) (p : Sending) (e : End) → Follows cost add_frag ch older p → Follows cost add_frag ch older (with_end p e)
+pub follows_still : (cost add_frag : ℕ) (ch : Chosen) (older : List Sending) (p : Sending) (e : End) → Follows cost add_frag ch older p → Follows cost add_frag ch older (with_end p e)
 unfolding with_end
 follows_still cost add_frag (express f) older p e h = h
 follows_still cost add_frag (whole f) older p e h = h

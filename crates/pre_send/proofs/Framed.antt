@@ -7,10 +7,11 @@ use Rattle.pre_send.specs.declared.going.Task.{Task}
 use Rattle.pre_send.specs.declared.going.Task.TheVariants as task
 use Rattle.pre_send.specs.declared.going.Going.{Going}
 use Rattle.pre_send.specs.declared.senders.Sender.{Sender}
-use Rattle.pre_send.specs.Calls.{Chosen, Call}
+use Rattle.pre_send.specs.Calls.{Chosen, verify, respond, lldp, Call}
 use Rattle.pre_send.specs.Sendings.{Sending, Part, interrupted, IsSending}
 use Rattle.pre_send.specs.Frames.{frame_by, HoldsSome, HoldsNewest}
 use Rattle.pre_send.specs.Endings.{HoldsTask, HoldsGoing, Holds}
+use Rattle.pre_send.specs.Lendings.{HasOctets, HasOther, LendsTask, LendsGoing, Lends}
 use Rattle.pre_send.specs.Senders.{Does, IsAt, Stands}
 
 by_frame : (o : Option FrameRef) (f : FrameRef) (store : List (Option (List ℕ))) → o ≡ Some f → HoldsSome o store → HoldsFrame store f
@@ -35,3 +36,25 @@ pub framed : (s : Sender) (cost add_frag : ℕ) (calls : List Call) (store : Lis
     → ((packets : List Sending) → IsSending cost add_frag calls packets → HoldsNewest packets store) → Holds s store
 unfolding Holds
 framed s cost add_frag calls store st held = going_held cost s.going s.kept s.last st.packets store st.place (held st.packets st.sending)
+
+-- ---- what is no frame
+
+by_octets : (ch : Chosen) (c : Chosen) (other : List ℕ) → ch ≡ c → HasOctets ch other → HasOctets c other
+by_octets ch c other is h = subst (λ (x : Chosen). HasOctets x other) is h
+
+task_lent : (k : Task) (kept : Option Piece) (p : Sending) (older : List Sending) (other : List ℕ) → Does k kept p older → HasOctets p.told.chosen other → LendsTask k other
+task_lent (task.Frame f) kept p older other does h = tt
+task_lent (task.Fragment x) kept p older other does h = tt
+task_lent task.Verify kept p older other does h = by_octets p.told.chosen verify other does.0 h
+task_lent task.Respond kept p older other does h = by_octets p.told.chosen respond other does.0 h
+task_lent task.Lldp kept p older other does h = by_octets p.told.chosen lldp other does.0 h
+
+going_lent : (cost : ℕ) (o : Option Going) (kept : Option Piece) (last : Option ℕ) (packets : List Sending) (other : List ℕ) → IsAt cost o kept last packets → HasOther packets other → LendsGoing o other
+going_lent cost None kept last packets other at h = tt
+going_lent cost (Some g) kept last [] other at h = absurd at
+going_lent cost (Some g) kept last (p ∷ older) other at h = task_lent g.task kept p older other at.3 h
+
+pub lent : (s : Sender) (cost add_frag : ℕ) (calls : List Call) (other : List ℕ) → Stands s cost add_frag calls
+    → ((packets : List Sending) → IsSending cost add_frag calls packets → HasOther packets other) → Lends s other
+unfolding Lends
+lent s cost add_frag calls other st has = going_lent cost s.going s.kept s.last st.packets other st.place (has st.packets st.sending)

@@ -3,3 +3,7 @@ pub mod Beginning
 pub mod Waiting
 pub mod Ending
 pub mod Framed
+pub mod Giving
+pub mod Joining
+pub mod Carried
+pub mod OneSending

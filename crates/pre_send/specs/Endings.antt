@@ -5,6 +5,8 @@ use Rattle.pre_mpacket.specs.declared.packets.Kind.{Kind}
 use Rattle.pre_mpacket.specs.declared.packets.Kind.TheVariants as kind
 use Rattle.pre_rings.specs.declared.slots.FrameRef.{FrameRef}
 use Rattle.pre_rings.specs.Stores.{HoldsFrame}
+use Rattle.pre_send.specs.declared.choices.Choice.{Choice}
+use Rattle.pre_send.specs.declared.choices.Choice.TheVariants as choice
 use Rattle.pre_send.specs.declared.choices.Sent.{Sent}
 use Rattle.pre_send.specs.declared.pieces.Piece.{Piece}
 use Rattle.pre_send.specs.declared.going.Task.{Task}
@@ -57,6 +59,25 @@ HoldsGoing (Some g) store = HoldsTask g.task store
 
 unfoldable pub Holds : Sender → List (Option (List ℕ)) → Type 0
 Holds s store = HoldsGoing s.going store
+
+-- the store holds the frame that is interrupted
+abbrev pub HoldsPiece : Option Piece → List (Option (List ℕ)) → Type 0
+HoldsPiece None store = Unit {0}
+HoldsPiece (Some x) store = HoldsFrame store x.frame
+
+unfoldable pub HoldsKept : Sender → List (Option (List ℕ)) → Type 0
+HoldsKept s store = HoldsPiece s.kept store
+
+-- each frame that it has
+pub record HoldsAll (s : Sender) (store : List (Option (List ℕ))) : Type 0 where
+  pub going : Holds s store
+  pub kept : HoldsKept s store
+
+abbrev pub HoldsChoice : Choice → List (Option (List ℕ)) → Type 0
+HoldsChoice (choice.Express f) store = HoldsFrame store f
+HoldsChoice (choice.Whole f) store = HoldsFrame store f
+HoldsChoice (choice.First f) store = HoldsFrame store f
+HoldsChoice _ store = Unit {0}
 
 -- ---- what the fields become
 

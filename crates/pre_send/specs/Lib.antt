@@ -9,3 +9,6 @@ pub mod Answers
 pub mod Senders
 pub mod Endings
 pub mod Frames
+pub mod Packets
+pub mod Lendings
+pub mod Carrying

@@ -1,8 +1,13 @@
-ghost use Rattle.std.specs.Prelude.{◌≡◌, ◌+◌, ◌^◌, ◌≤◌, ◌<◌};
-ghost use Rattle.pre_send.specs.Tasks.{TaskTold};
+ghost use Rattle.std.specs.Prelude.{◌≡◌, ◌+◌, ◌^◌, ◌≤◌, ◌<◌, length, replicate};
+ghost use Rattle.pre_mpacket.specs.Spelling.{PlainPacket, IsWhole};
+ghost use Rattle.pre_send.specs.Tasks.{task_size, TaskTold};
+ghost use Rattle.pre_send.specs.Packets.{in_one_piece, bare};
+ghost use Rattle.pre_mpacket.specs.declared.packets.Kind.TheVariants as kind;
 
-use crate::pieces::Piece;
-use pre_rings::FrameRef;
+use crate::pieces::{Piece, with_check};
+use pre_crc::Running;
+use pre_mpacket::Kind;
+use pre_rings::{FrameRef, FrameStore};
 
 /// What is under way.
 #[derive(Debug, Drop)]
@@ -24,10 +29,32 @@ pub(crate) struct Going {
     /// The first tick from which on an express frame waits, once that was told.
     pub waits: Option<u64>,
     ghost began_within: { began ≤ 10 ^ 18 },
+    ghost size_least: { 64 ≤ task_size task },
+}
+
+impl Task {
+    ghost use Rattle.pre_send.specs.Endings.{HoldsTask};
+    ghost use Rattle.pre_send.specs.Lendings.{LendsTask, GivesTask};
+
+    /// Its mPacket as it is planned, with its check as sent.
+    pub fn packet<'a>(&self, store: &'a FrameStore, other: &'a [u8]) -> (Kind, &'a [u8], [u8; 4])
+        requires size { 64 ≤ task_size self.now }
+        requires holds { HoldsTask self.now store.now }
+        requires other { LendsTask self.now other.now }
+        ensures given { GivesTask self.now store.now other.now (record { kind = result.0; mdata = result.1.now; check = result.2 }) }
+        ensures whole { IsWhole (record { kind = result.0; mdata = result.1.now; check = result.2 }) }
+    {
+        match self {
+            Task::Frame(frame) => in_one_piece(store.octets(&frame.slot)),
+            Task::Fragment(piece) => piece.packet(store),
+            Task::Verify => bare(Kind::Verify, other),
+            Task::Respond => bare(Kind::Respond, other),
+            Task::Lldp => in_one_piece(other),
+        }
+    }
 }
 
 impl Going {
-    ghost use Rattle.pre_send.specs.Tasks.{task_size};
     ghost use Rattle.pre_send.specs.Goings.{GoingTold};
 
     /// Its octets of mData and check, as they are planned.
@@ -71,7 +98,9 @@ fn task_told(task: Task, began: u64, waits: u64, cost: u64, add_frag: u8) -> Tas
     requires most { cost ≤ 1000 }
     requires add_frag { add_frag ≤ 3 }
     requires waits { waits ≤ 10 ^ 18 }
-    ensures { TaskTold task result began waits cost add_frag }
+    requires size { 64 ≤ task_size task }
+    ensures told { TaskTold task result began waits cost add_frag }
+    ensures size { 64 ≤ task_size result }
 {
     match task {
         Task::Fragment(piece) => Task::Fragment(piece.told(began, waits, cost, add_frag)),
@@ -80,4 +109,23 @@ fn task_told(task: Task, began: u64, waits: u64, cost: u64, add_frag: u8) -> Tas
         Task::Respond => Task::Respond,
         Task::Lldp => Task::Lldp,
     }
+}
+
+// A frame as one express mPacket.
+fn in_one_piece(octets: &[u8]) -> (Kind, &[u8], [u8; 4])
+    requires { 4 ≤ length octets.now }
+    ensures { in_one_piece kind.Express (length octets.now) octets.now ≡ record { kind = result.0; mdata = result.1.now; check = result.2 } }
+{
+    let (mdata, check) = with_check(octets);
+    (Kind::Express, mdata, check)
+}
+
+// A verify or respond out of its octets.
+fn bare(kind: Kind, octets: &[u8]) -> (Kind, &[u8], [u8; 4])
+    requires { octets.now ≡ replicate 60 0 }
+    ensures { bare kind ≡ record { kind = result.0; mdata = result.1.now; check = result.2 } }
+{
+    let mut check = Running::new();
+    check.add(octets);
+    (kind, octets, check.mcrc())
 }

@@ -10,5 +10,5 @@ mod senders;
 mod tests;
 
 pub use choices::{Choice, Sent};
-pub use laws::frames_law;
+pub use laws::{ending_law, fragments_law, frames_law, one_sending, others_law, whole_frames_law};
 pub use senders::Sender;

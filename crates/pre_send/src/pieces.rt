@@ -1,10 +1,13 @@
-ghost use Rattle.std.specs.Prelude.{◌≡◌, ℕ, ◌+◌, ◌-◌, ◌*◌, ◌^◌, ◌≤◌, ◌<◌, Option, None, Some, MatchOption};
+ghost use Rattle.std.specs.Prelude.{◌≡◌, ℕ, ◌+◌, ◌-◌, ◌*◌, ◌^◌, ◌≤◌, ◌<◌, Option, None, Some, MatchOption, length, take, drop};
 ghost use Rattle.std.specs.Option.{ForSome};
+ghost use Rattle.pre_mpacket.specs.Spelling.{PlainPacket, HasCounts, IsWhole};
+ghost use Rattle.pre_rings.specs.Stores.{HoldsFrame};
 ghost use Rattle.pre_send.specs.Cuts.{IsFirstCut};
+ghost use Rattle.pre_send.specs.Sendings.{octets_at};
 
 use pre_crc::Running;
 use pre_mpacket::Kind;
-use pre_rings::FrameRef;
+use pre_rings::{FrameRef, FrameStore};
 
 /// The octets of a check.
 pub(crate) const CHECK: u16 = 4;
@@ -38,10 +41,12 @@ pub(crate) struct Piece {
 
 impl Piece {
     ghost use Rattle.pre_send.specs.Plans.{piece_kind, piece_size, PieceTold};
+    ghost use Rattle.pre_send.specs.Lendings.{GivesPiece};
 
     /// Its kind as an mPacket.
     pub fn kind(&self) -> Kind
-        ensures { result ≡ piece_kind self.now }
+        ensures kind { result ≡ piece_kind self.now }
+        ensures counts { HasCounts result }
     {
         if self.from == 0 {
             Kind::Start(self.frame_count)
@@ -57,6 +62,29 @@ impl Piece {
         match self.cut {
             Some(mdata) => mdata + CHECK,
             None => self.frame.size - self.from,
+        }
+    }
+
+    /// Its fragment as it is planned, with its check as sent: that of its frame where it ends it, and else the check of all
+    /// octets of the frame up to its end, to which the running check adds those of the fragment alone.
+    pub fn packet<'a>(&self, store: &'a FrameStore) -> (Kind, &'a [u8], [u8; 4])
+        requires { HoldsFrame store.now self.now.frame }
+        ensures given { GivesPiece self.now store.now (record { kind = result.0; mdata = result.1.now; check = result.2 }) }
+        ensures whole { IsWhole (record { kind = result.0; mdata = result.1.now; check = result.2 }) }
+    {
+        let kind = self.kind();
+        match self.cut {
+            Some(size) => {
+                let mdata = part_of(store, &self.frame, self.from, size);
+                let mut check = self.check;
+                check.add(mdata);
+                (kind, mdata, check.mcrc())
+            }
+            None => {
+                let unsent = part_of(store, &self.frame, self.from, self.frame.size - self.from);
+                let (mdata, check) = with_check(unsent);
+                (kind, mdata, check)
+            }
         }
     }
 
@@ -86,6 +114,29 @@ impl Piece {
             cut,
         }
     }
+}
+
+/// So many octets of a frame from a place on.
+pub(crate) fn part_of<'a>(store: &'a FrameStore, frame: &FrameRef, from: u16, size: u16) -> &'a [u8]
+    requires held { HoldsFrame store.now frame.now }
+    requires within { from + size ≤ frame.now.size }
+    ensures { result.now ≡ take size (drop from (octets_at store.now frame.now.slot)) }
+{
+    let octets = store.octets(&frame.slot);
+    let from = usize::from(from);
+    &octets[from..from + usize::from(size)]
+}
+
+/// The end of a frame, parted into its mData and the frame's check sequence.
+pub(crate) fn with_check(octets: &[u8]) -> (&[u8], [u8; 4])
+    requires { 4 ≤ length octets.now }
+    ensures mdata { result.0.now ≡ take (length octets.now - 4) octets.now }
+    ensures check { result.1 ≡ drop (length octets.now - 4) octets.now }
+{
+    let (mdata, last) = octets.split_at(octets.len() - 4);
+    let mut check = [0; 4];
+    check.copy_from_slice(last);
+    (mdata, check)
 }
 
 /// The octets of mData after which a fragment that began at a tick is cut, where an express frame waits from a later tick

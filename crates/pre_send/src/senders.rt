@@ -1,4 +1,4 @@
-ghost use Rattle.std.specs.Prelude.{◌≡◌, ◌↔◌, IsTrue, is_some, option_map, ℕ, ◌+◌, ◌*◌, ◌^◌, ◌≤◌, ◌<◌, true, false, take, drop, List, [], ◌∷◌, ◌++◌, Option, Some, None};
+ghost use Rattle.std.specs.Prelude.{◌≡◌, ◌↔◌, IsTrue, IsSome, IfSome, is_some, option_map, ℕ, ◌+◌, ◌*◌, ◌^◌, ◌≤◌, ◌<◌, true, false, take, drop, List, [], ◌∷◌, ◌++◌, Option, Some, None};
 ghost use Rattle.std.specs.Option.{ForSome};
 ghost use Rattle.pre_rings.specs.Stores.{HoldsFrame};
 ghost use Rattle.pre_send.specs.Fragments.{next_fragment};
@@ -6,7 +6,7 @@ ghost use Rattle.pre_send.specs.Sendings.{octets_at};
 
 use crate::choices::{Choice, Sent};
 use crate::going::{Going, Task};
-use crate::pieces::{HEAD, Piece, first_cut};
+use crate::pieces::{HEAD, Piece, part_of};
 use pre_base::{FrameNo, Tick};
 use pre_crc::Running;
 use pre_mpacket::Kind;
@@ -40,15 +40,20 @@ impl Sender {
     ghost use Rattle.pre_send.specs.Calls.{Call, begun, waited, ended, told_by};
     ghost use Rattle.pre_send.specs.Sendings.{IsFree};
     ghost use Rattle.pre_send.specs.Answers.{IsFreeAt, EndsAt, IsInterrupted};
-    ghost use Rattle.pre_send.specs.Endings.{Ends, plans_end, Holds, HoldsTask, EndsPiece, EndsTask};
+    ghost use Rattle.pre_send.specs.Endings.{Ends, plans_end, Holds, HoldsAll, HoldsChoice, HoldsTask, EndsPiece, EndsTask};
+    ghost use Rattle.pre_mpacket.specs.Spelling.{PlainPacket, IsWhole};
+    ghost use Rattle.pre_send.specs.Tasks.{task_size};
+    ghost use Rattle.pre_send.specs.Lendings.{Lends, LendsChoice, Gives};
     ghost use Rattle.pre_send.specs.Senders.{Stands, chosen, is_free, is_interrupted, MayBegin, Firsts, Rests, Chooses};
 
     /// A sender that has sent nothing, by the ticks for an octet and the link's additional fragment size.
+    #[tactic(auto, unfolding(crate::specs::Endings::Holds, crate::specs::Endings::HoldsKept))]
     pub fn idle(cost: u64, add_frag: u8) -> Sender
         requires cost { 1 ≤ cost }
         requires most { cost ≤ 1000 }
         requires add_frag { add_frag ≤ 3 }
-        ensures { Stands result cost add_frag [] }
+        ensures stands { Stands result cost add_frag [] }
+        ensures holds { (store : List (Option (List ℕ))) → HoldsAll result store }
     {
         Sender {
             cost,
@@ -109,11 +114,15 @@ impl Sender {
     }
 
     /// Tells that an mPacket begins.
+    #[tactic(auto, unfolding(crate::specs::Endings::plans_end, crate::specs::Endings::Holds, crate::specs::Endings::HoldsKept, crate::specs::Lendings::Lends))]
     pub fn begin(&mut self, now: Tick, choice: Choice)
         requires free { is_free self.old now.0 ≡ true }
         requires may { MayBegin self.old choice }
         requires within { now.0 ≤ 10 ^ 18 }
-        ensures { (cost add_frag : ℕ) (calls : List Call) → Stands self.old cost add_frag calls → Stands self.new cost add_frag (calls ++ begun now.0 (chosen choice) ∷ []) }
+        ensures stands { (cost add_frag : ℕ) (calls : List Call) → Stands self.old cost add_frag calls → Stands self.new cost add_frag (calls ++ begun now.0 (chosen choice) ∷ []) }
+        ensures going { IsSome (plans_end self.new) }
+        ensures holds { (store : List (Option (List ℕ))) → HoldsAll self.old store → HoldsChoice choice store → HoldsAll self.new store }
+        ensures lends { (other : List ℕ) → LendsChoice choice other → Lends self.new other }
     {
         let task = self.task_of(choice);
         self.going = Some(Going {
@@ -125,9 +134,14 @@ impl Sender {
 
     /// Tells that an express frame waits from now on until the mPacket under way has ended, which fixes where a fragment is
     /// cut. With none under way it changes nothing. Ticks never fall from call to call.
+    #[tactic(auto, unfolding(crate::specs::Endings::plans_end, crate::specs::Endings::Holds, crate::specs::Endings::HoldsKept, crate::specs::Lendings::Lends))]
     pub fn express_waits(&mut self, now: Tick)
         requires { now.0 ≤ 10 ^ 18 }
-        ensures { (cost add_frag : ℕ) (calls : List Call) → Stands self.old cost add_frag calls → Stands self.new cost add_frag (calls ++ waited now.0 ∷ []) }
+        ensures stands { (cost add_frag : ℕ) (calls : List Call) → Stands self.old cost add_frag calls → Stands self.new cost add_frag (calls ++ waited now.0 ∷ []) }
+        ensures idle { plans_end self.old ≡ None → self.new ≡ self.old }
+        ensures going { IsSome (plans_end self.old) → IsSome (plans_end self.new) }
+        ensures holds { (store : List (Option (List ℕ))) → HoldsAll self.old store → HoldsAll self.new store }
+        ensures lends { (other : List ℕ) → Lends self.old other → Lends self.new other }
     {
         let Some(going) = self.going.take() else {
             return;
@@ -135,13 +149,33 @@ impl Sender {
         self.going = Some(going.told(now.0, self.cost, self.add_frag));
     }
 
+    /// The mPacket under way, as it ends by the present plan: its kind, its mData and its check as sent (IEEE 802.3, 99.3).
+    /// The mData is lent out of the store, which holds its frame, or out of `other`, which is an LLDP frame of 64 octets, or
+    /// the 60 octets 0 of a verify or respond. Of all octets of the frame so far only those of this mPacket are looked at.
+    #[tactic(auto, unfolding(crate::specs::Endings::plans_end, crate::specs::Endings::Holds, crate::specs::Lendings::Lends))]
+    pub fn mpacket<'a>(&self, store: &'a FrameStore, other: &'a [u8]) -> (Kind, &'a [u8], [u8; 4])
+        requires going { IsSome (plans_end self.now) }
+        requires holds { Holds self.now store.now }
+        requires other { Lends self.now other.now }
+        ensures given { (cost add_frag : ℕ) (calls : List Call) → Stands self.now cost add_frag calls
+            → Gives cost add_frag calls store.now other.now (record { kind = result.0; mdata = result.1.now; check = result.2 }) }
+        ensures whole { IsWhole (record { kind = result.0; mdata = result.1.now; check = result.2 }) }
+    {
+        match &self.going {
+            Some(going) => going.task.packet(store, other),
+            None => unreachable!(),
+        }
+    }
+
     /// Tells that the mPacket under way has ended, and what it was. The store holds its frame.
-    #[tactic(auto, unfolding(crate::specs::Endings::plans_end, crate::specs::Endings::Holds))]
+    #[tactic(auto, unfolding(crate::specs::Endings::plans_end, crate::specs::Endings::Holds, crate::specs::Endings::HoldsKept))]
     pub fn finish(&mut self, now: Tick, store: &FrameStore) -> Sent
         requires due { plans_end self.old ≡ Some now.0 }
         requires holds { Holds self.old store.now }
         requires within { now.0 ≤ 2 * 10 ^ 18 }
         ensures stands { (cost add_frag : ℕ) (calls : List Call) → Stands self.old cost add_frag calls → Stands self.new cost add_frag (calls ++ ended now.0 store.now ∷ []) }
+        ensures holds { HoldsAll self.old store.now → HoldsAll self.new store.now }
+        ensures done { IfSome result.done (λ f. HoldsFrame store.now f) }
         ensures sent { (cost add_frag : ℕ) (calls : List Call) → Stands self.old cost add_frag calls → Ends cost add_frag (calls ++ ended now.0 store.now ∷ []) result }
     {
         let Some(going) = self.going.take() else {
@@ -155,7 +189,8 @@ impl Sender {
     // Ends what was under way.
     fn end_task(&mut self, task: Task, store: &FrameStore) -> Sent
         requires { HoldsTask task store.now }
-        ensures { EndsTask task self.old self.new store.now result }
+        ensures ends { EndsTask task self.old self.new store.now result }
+        ensures done { IfSome result.done (λ f. HoldsFrame store.now f) }
     {
         match task {
             Task::Frame(frame) => Sent {
@@ -174,7 +209,8 @@ impl Sender {
     // Ends a fragment: its frame is done, or it is kept.
     fn end_piece(&mut self, piece: Piece, store: &FrameStore) -> Sent
         requires { HoldsFrame store.now piece.frame }
-        ensures { EndsPiece self.old self.new piece store.now result }
+        ensures ends { EndsPiece self.old self.new piece store.now result }
+        ensures done { IfSome result.done (λ f. HoldsFrame store.now f) }
     {
         let kind = piece.kind();
         let size = piece.size();
@@ -216,7 +252,8 @@ impl Sender {
     #[tactic(auto, unfolding(crate::specs::Senders::is_interrupted))]
     fn task_of(&mut self, choice: Choice) -> Task
         requires { MayBegin self.old choice }
-        ensures { Chooses choice self.old self.new result }
+        ensures chooses { Chooses choice self.old self.new result }
+        ensures size { 64 ≤ task_size result }
     {
         match choice {
             Choice::Express(frame) => Task::Frame(frame),
@@ -233,7 +270,8 @@ impl Sender {
     fn first(&mut self, frame: FrameRef) -> Task
         requires least { 64 ≤ frame.size }
         requires most { frame.size ≤ 1522 }
-        ensures { Firsts self.old self.new frame result }
+        ensures first { Firsts self.old self.new frame result }
+        ensures size { 64 ≤ task_size result }
     {
         let frame_count = self.frame_count;
         self.frame_count = (frame_count + 1) % 4;
@@ -251,7 +289,8 @@ impl Sender {
     #[tactic(auto, unfolding(crate::specs::Senders::is_interrupted))]
     fn rest(&mut self) -> Task
         requires { is_interrupted self.old ≡ true }
-        ensures { Rests self.old self.new result }
+        ensures rest { Rests self.old self.new result }
+        ensures size { 64 ≤ task_size result }
     {
         match self.kept.take() {
             Some(piece) => Task::Fragment(piece),
@@ -266,17 +305,6 @@ fn next_fragment(from: u16, fragment: u8) -> u8
     ensures { result ≡ next_fragment from fragment }
 {
     if from == 0 { 0 } else { (fragment + 1) % 4 }
-}
-
-// So many octets of a frame from a place on.
-fn part_of<'a>(store: &'a FrameStore, frame: &FrameRef, from: u16, size: u16) -> &'a [u8]
-    requires held { HoldsFrame store.now frame.now }
-    requires within { from + size ≤ frame.now.size }
-    ensures { result.now ≡ take size (drop from (octets_at store.now frame.now.slot)) }
-{
-    let octets = store.octets(&frame.slot);
-    let from = usize::from(from);
-    &octets[from..from + usize::from(size)]
 }
 
 // What has 60 octets of mData and is no user frame.
