@@ -1,5 +1,5 @@
 -- Raw rows without a fault.
-use Rattle.std.proofs.Common.{◌≡◌, ℕ, zero, suc, ◌+◌, ◌<◌, ◌≤◌, Bool, true, false, not, ◌&&◌, ◌||◌, List, [], ◌∷◌, length, take, get_or, slice_get, Option, Some, None, option_map, option_and_then, is_some, position, All, AllPairs, nat_le, if◌then◌else◌, refl, sym, ◌∙◌, ap, arith, IsTrue, subst}
+use Rattle.std.proofs.Common.{◌≡◌, ℕ, ◌+◌, ◌<◌, true, false, not, ◌&&◌, List, [], ◌∷◌, length, take, get_or, slice_get, Option, Some, None, option_map, option_and_then, is_some, position, All, AllPairs, nat_le, refl, sym, ◌∙◌, ap, arith, IsTrue, subst}
 use Rattle.std.specs.List.{list_any}
 use Rattle.std.specs.Option.{option_map_or}
 use Rattle.std.specs.Str.{bytes_eq}
@@ -8,38 +8,17 @@ use Rattle.std.proofs.lemmas.Option.{slice_get-get_or}
 use Rattle.std.proofs.lemmas.List.Quantifiers.{position-Some}
 use Rattle.pre_text.specs.Words.{is_name}
 use Rattle.pre_table.specs.declared.values.Whole.TheVariants.{Natural}
-use Rattle.pre_table.specs.FirstFaults.{first_of, first_row}
+use Rattle.pre_table.specs.FirstFaults.{first_row}
 use Rattle.pre_topo.specs.declared.network.Network.{Network}
-use Rattle.pre_streams.specs.declared.faults.StreamFault.{StreamFault}
 use Rattle.pre_streams.specs.declared.faults.StreamFault.TheVariants.{Count}
 use Rattle.pre_streams.specs.declared.raw.RawStreams.{RawStreams}
 use Rattle.pre_streams.specs.declared.raw.RawFlow.{RawFlow}
-use Rattle.pre_streams.specs.FileRules.{name_breaks, name_fault, is_named, entry_breaks, other_route, hop_fault, bad_route, route_fault, class_breaks, class_fault, row_in_range, curve_in_range, range_breaks, range_fault, burst_breaks, burst_fault, counts_hold, raw_fault}
+use Rattle.pre_streams.specs.FileRules.{name_breaks, name_fault, is_named, entry_breaks, other_route, hop_fault, route_fault, class_breaks, class_fault, row_in_range, curve_in_range, range_breaks, range_fault, burst_breaks, burst_fault, counts_hold, raw_fault}
 use Rattle.pre_streams.specs.Holds.{Holds}
-use Rattle.pre_streams.proofs.FirstRows.{none_passes, none_breaks}
+use Rattle.pre_table.specs.NoFaults.{first_none, map_none, unless_none, none_passes, none_breaks, none_before}
 
 pub default_row : RawFlow
 default_row = record { name = []; vid = Natural 0; prio = Natural 0; route = []; max = Natural 0 }
-
--- where there is no first, there is none
-first_none : {A : Type 0} (o : Option A) (os : List (Option A)) → first_of (o ∷ os) ≡ None → (o ≡ None) × (first_of os ≡ None)
-first_none None os none = (refl, none)
-first_none (Some x) os none = cc
-
-map_none : {A B : Type 0} (f : A → B) (o : Option A) → option_map f o ≡ None → o ≡ None
-map_none f None none = refl
-map_none f (Some x) none = cc
-
-unless_none : (b : Bool) (fault : StreamFault) → (if b then None else Some fault) ≡ None → IsTrue b
-unless_none true fault none = refl
-unless_none false fault none = cc
-
--- what a test of any of the elements before a place says of each of them
-pub none_before : {X : Type 0} (p : X → Bool) (xs : List X) (j : ℕ) → list_any p (take j xs) ≡ false → (i : ℕ) (d : X) → i < j → i < length xs → p (get_or xs i d) ≡ false
-none_before p [] j none i d before within = absurd (omega arith)
-none_before p (x ∷ xs) zero none i d before within = absurd (omega arith)
-none_before p (x ∷ xs) (suc j) none zero d before within = (or_parts (p x) (list_any p (take j xs)) none).0
-none_before p (x ∷ xs) (suc j) none (suc i) d before within = none_before p xs j (or_parts (p x) (list_any p (take j xs)) none).1 i d (omega arith) (omega arith)
 
 not_some : {A : Type 0} (o : Option A) → is_some o ≡ false → o ≡ None
 not_some None is = refl

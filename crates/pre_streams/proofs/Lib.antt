@@ -1,7 +1,7 @@
 mod Found
 mod PairFits
-mod FirstRows
 mod Faultless
 mod MadeRoutes
 mod MadeRows
 mod Rising
+mod NextArcs

@@ -1,10 +1,10 @@
 -- Routes whose entries all pass.
-use Rattle.std.proofs.Common.{◌≡◌, ◌≢◌, ℕ, zero, suc, ◌+◌, ◌-◌, ◌<◌, ◌≤◌, ◌==◌, Bool, true, false, not, ◌&&◌, ◌||◌, List, [], ◌∷◌, length, map, take, get_or, slice_get, Option, Some, None, is_some, option_map, position, unwrap_or, AllPairs, nat_le, cond, if◌then◌else◌, refl, sym, ◌∙◌, ap, subst, arith, IsTrue, inl, inr}
+use Rattle.std.proofs.Common.{◌≡◌, ◌≢◌, ℕ, zero, suc, ◌+◌, ◌-◌, ◌<◌, ◌≤◌, ◌==◌, Bool, true, false, not, ◌||◌, List, [], ◌∷◌, length, map, take, get_or, slice_get, Option, Some, None, is_some, option_map, unwrap_or, AllPairs, nat_le, cond, if◌then◌else◌, refl, sym, ◌∙◌, ap, subst, arith, IsTrue}
 use Rattle.std.specs.List.{list_any}
 use Rattle.std.specs.Option.{option_map_or}
 use Rattle.std.specs.Str.{bytes_eq}
 use Rattle.std.specs.Cmp.Lexicographic.{same_text, other_text}
-use Rattle.std.proofs.lemmas.Bool.{not-false, or_parts, or_cases, or_left, or_right, or_from, and_parts, leb-true, eqb-true, eq-eqb, ne_eqb, true≢false, false≢true, not-true}
+use Rattle.std.proofs.lemmas.Bool.{not-false, or_parts, or_right, or_from, and_parts, leb-true, eqb-true, eq-eqb, ne_eqb, true≢false, not-true}
 use Rattle.std.proofs.lemmas.Option.{same_Some, slice_get-map, slice_get-get_or, slice_get_within}
 use Rattle.std.proofs.lemmas.List.{length-map, get_or-map}
 use Rattle.std.proofs.lemmas.List.Quantifiers.{position-Some}
@@ -15,13 +15,11 @@ use Rattle.pre_topo.specs.declared.network.Network.{Network}
 use Rattle.pre_topo.specs.declared.nodes.Node.{Node}
 use Rattle.pre_topo.specs.declared.nodes.NodeKind.{NodeKind}
 use Rattle.pre_topo.specs.declared.nodes.NodeKind.TheVariants.{Station, Bridge}
-use Rattle.pre_topo.specs.declared.arcs.Arc.{Arc}
 use Rattle.pre_topo.specs.Pair.{station, pair_arc}
 use Rattle.pre_streams.specs.FileRules.{has_name, node_place, is_station, is_station_at, leads, arc_place, is_end, is_linked, is_reached, has_kind_for, entry_breaks, length_in_range}
 use Rattle.pre_streams.specs.Made.{node_id, arc_id, arcs_along, route_made}
 use Rattle.pre_streams.specs.Rows.{IsOfKind, Leads, IsRoute}
-use Rattle.pre_streams.proofs.FirstRows.{none_breaks}
-use Rattle.pre_streams.proofs.Faultless.{none_before}
+use Rattle.pre_table.specs.NoFaults.{none_breaks, none_before}
 
 pub same_octets : (xs ys : List ℕ) → xs ≡ ys → bytes_eq xs ys ≡ true
 same_octets xs ys same = by_cases (bytes_eq xs ys) refl

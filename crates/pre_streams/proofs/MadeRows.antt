@@ -1,10 +1,10 @@
 -- Rows that raw rows without a fault make fit the network.
-use Rattle.std.proofs.Common.{◌≡◌, ◌≢◌, ℕ, zero, suc, ◌+◌, ◌-◌, ◌<◌, ◌≤◌, ◌^◌, ◌==◌, Bool, true, false, not, ◌&&◌, ◌||◌, List, [], ◌∷◌, length, map, take, get_or, slice_get, max, Option, Some, None, is_some, is_none, IsSome, IsNone, IfSome, option_map, All, AllPairs, count_by, nat_le, nat_lt, cond, if◌then◌else◌, refl, sym, ◌∙◌, ap, subst, arith, IsTrue, zero-add}
+use Rattle.std.proofs.Common.{◌≡◌, ◌≢◌, ℕ, zero, suc, ◌+◌, ◌-◌, ◌<◌, ◌≤◌, ◌^◌, ◌==◌, Bool, true, false, not, ◌&&◌, List, [], ◌∷◌, length, map, get_or, slice_get, max, Option, Some, None, is_some, is_none, IsNone, IfSome, option_map, All, AllPairs, count_by, nat_le, nat_lt, cond, if◌then◌else◌, refl, sym, ◌∙◌, ap, subst, arith, IsTrue, zero-add}
 use Rattle.std.specs.List.{find, common_prefix_len, enumerate_from}
 use Rattle.std.specs.Option.{option_map_or}
 use Rattle.std.specs.Str.{bytes_eq}
 use Rattle.std.specs.Cmp.Lexicographic.{same_text}
-use Rattle.std.proofs.lemmas.Bool.{and_parts, leb-true, ltb-false, ltb-true, lt-ltb, le-ltb, eqb-true, eq-eqb, true≢false, false≢true, not-false}
+use Rattle.std.proofs.lemmas.Bool.{and_parts, leb-true, ltb-false, ltb-true, lt-ltb, le-ltb, eqb-true, eq-eqb, true≢false, not-false}
 use Rattle.std.proofs.lemmas.Option.{same_Some, slice_get-get_or, slice_get_within, slice_get_past}
 use Rattle.std.proofs.lemmas.List.{length-map, get_or-map}
 use Rattle.std.proofs.lemmas.List.FromFn.{length-enumerate_from, get_or-enumerate_from}
@@ -20,7 +20,7 @@ use Rattle.pre_streams.specs.declared.raw.RawCurve.{RawCurve}
 use Rattle.pre_streams.specs.declared.raw.RawFlow.{RawFlow}
 use Rattle.pre_streams.specs.declared.rows.Row.{Row}
 use Rattle.pre_streams.specs.declared.rows.Streams.{Streams}
-use Rattle.pre_streams.specs.FileRules.{class_breaks, curve_in_range, difference, has_vid, length_in_range, other_route, raw_fault, row_in_range}
+use Rattle.pre_streams.specs.FileRules.{curve_in_range, difference, has_vid, length_in_range, other_route, raw_fault}
 use Rattle.pre_streams.specs.Holds.{Holds}
 use Rattle.pre_streams.specs.Made.{RowParts, arcs_along, curve_made, curve_parts, route_made, row_made, row_parts, rows_made}
 use Rattle.pre_streams.specs.Rows.{IsCurveOf, IsRoute, IsRow}

@@ -1,5 +1,5 @@
 -- Rows and arcs that are made one after another.
-use Rattle.std.proofs.Common.{◌≡◌, ℕ, zero, suc, ◌+◌, ◌<◌, List, [], ◌∷◌, ◌++◌, length, map, take, get_or, slice_get, Option, option_map, refl, sym, ◌∙◌, ap, arith, add-zero, subst}
+use Rattle.std.proofs.Common.{◌≡◌, ℕ, suc, ◌+◌, ◌<◌, List, [], ◌∷◌, ◌++◌, length, map, take, get_or, slice_get, refl, sym, ◌∙◌, ap, arith, add-zero}
 use Rattle.std.specs.List.{enumerate_from}
 use Rattle.std.proofs.lemmas.List.{map_push, take_more, length-take}
 use Rattle.pre_base.specs.declared.numbers.NodeId.{NodeId}

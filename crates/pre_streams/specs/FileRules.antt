@@ -1,6 +1,6 @@
 -- The rules of a stream file over its raw rows, for a network, and the first fault.
-use Rattle.std.specs.Prelude.{ℕ, ◌+◌, ◌-◌, ◌^◌, ◌==◌, Bool, true, false, not, ◌&&◌, ◌||◌, List, [], ◌∷◌, ◌++◌, length, map, take, nat_le, nat_lt, Option, Some, None, is_some, is_none, option_map, option_and_then, position, slice_get, if◌then◌else◌}
-use Rattle.std.specs.List.{list_any, find, enumerate_from, common_prefix_len}
+use Rattle.std.specs.Prelude.{ℕ, ◌+◌, ◌-◌, ◌^◌, ◌==◌, Bool, true, false, not, ◌&&◌, ◌||◌, List, [], ◌∷◌, length, take, nat_le, nat_lt, Option, Some, None, is_some, option_map, option_and_then, position, slice_get, if◌then◌else◌}
+use Rattle.std.specs.List.{list_any, find, common_prefix_len}
 use Rattle.std.specs.Option.{option_map_or}
 use Rattle.std.specs.Str.{bytes_eq}
 use Rattle.pre_base.specs.declared.numbers.FileRow.{FileRow}

@@ -4,7 +4,6 @@ use Rattle.std.specs.Prelude.{ℕ, List, [], ◌∷◌, ◌++◌, codes, map, Op
 use Rattle.toml.specs.Data.{Data, Members, as_str}
 use Rattle.pre_base.specs.declared.numbers.FileRow.{FileRow}
 use Rattle.pre_base.specs.declared.numbers.FileRow.TheVariants.{Top, Stream, Flow}
-use Rattle.pre_table.specs.declared.values.Whole.{Whole}
 use Rattle.pre_table.specs.Documents.{has_only}
 use Rattle.pre_table.specs.Values.{given, kept, read_or, as_whole, as_tables, as_texts}
 use Rattle.pre_table.specs.Rows.{rows_of, in_row, rows_in, in_rows}

@@ -5,6 +5,7 @@ mod building;
 mod checks;
 mod faults;
 mod fields;
+mod laws;
 mod lookups;
 mod pairs;
 mod raw;
@@ -14,6 +15,7 @@ mod routes;
 mod rows;
 
 pub use faults::StreamFault;
+pub use laws::routes_law;
 pub use pairs::pair;
 pub use reading::read_streams;
 pub use rows::{Row, Streams};
@@ -38,6 +40,7 @@ mod tests {
         }
         assert_eq!(rt; streams.next_arc(NodeId(0), 11), None);
         assert_eq!(rt; streams.next_arc(NodeId(2), 10), None);
+        routes_law();
         Ok(())
     }
 }

@@ -1,6 +1,6 @@
 ghost use Rattle.std.specs.Prelude.{◌≡◌, ℕ, IfSome, IfNone};
 ghost use Rattle.std.specs.Option.{option_map};
-ghost use Rattle.pre_streams.specs.Hops.{TakesArc, TakesArcBy, VidTakesArc, place_of_row};
+ghost use Rattle.pre_streams.specs.Hops.{IsNextArc, TakesArc, TakesArcBy, place_of_row};
 
 use crate::Row;
 use pre_base::{ArcId, NodeId};
@@ -33,8 +33,7 @@ fn arc_by(row: &Row, node: NodeId, vid: u16) -> Option<ArcId>
 
 /// The arc that the route of the VID takes from the node.
 pub(crate) fn arc_of_vid(rows: &[Row], node: NodeId, vid: u16) -> Option<ArcId>
-    ensures found { IfSome result (λ arc. VidTakesArc rows.now node vid arc) }
-    ensures missing { IfNone result ((arc : ArcId) → ¬ VidTakesArc rows.now node vid arc) }
+    ensures { IsNextArc rows.now node vid result }
 {
     for row in rows {
         if let Some(arc) = arc_by(row, node, vid) {

@@ -1,4 +1,4 @@
-ghost use Rattle.std.specs.Prelude.{◌≡◌, ◌≤◌, length, IfSome, IfNone};
+ghost use Rattle.std.specs.Prelude.{◌≡◌, ◌≤◌, length};
 ghost use Rattle.std.specs.Option.{option_map};
 
 use crate::lookups::{arc_of_vid, place_of};
@@ -29,13 +29,13 @@ pub struct Streams {
 }
 
 impl Streams {
-    ghost use Rattle.pre_streams.specs.Hops.{VidTakesArc};
+    ghost use Rattle.pre_streams.specs.Hops.{IsNextArc};
     ghost use Rattle.pre_streams.specs.Named.{row_named};
 
     /// The arc that the route of this VID takes from the node: None exactly where no row of that VID leaves it.
+    /// Where the streams fit a network, all rows of the VID take this arc (`routes_law`).
     pub fn next_arc(&self, node: NodeId, vid: u16) -> Option<ArcId>
-        ensures found { IfSome result (λ arc. VidTakesArc self.now.rows node vid arc) }
-        ensures missing { IfNone result ((arc : ArcId) → ¬ VidTakesArc self.now.rows node vid arc) }
+        ensures { IsNextArc self.now.rows node vid result }
     {
         arc_of_vid(self.rows.as_slice(), node, vid)
     }

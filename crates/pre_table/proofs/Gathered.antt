@@ -1,9 +1,8 @@
 -- Rows that were read so far, up to the end or the first that can't be.
-use Rattle.std.proofs.Common.{◌≡◌, ℕ, zero, suc, ◌+◌, ◌<◌, Bool, true, false, List, [], ◌∷◌, ◌++◌, length, map, take, get_or, Option, Some, None, is_none, position, Ok, Err, refl, sym, ◌∙◌, ap, arith, not}
+use Rattle.std.proofs.Common.{◌≡◌, ℕ, zero, suc, ◌<◌, List, [], ◌∷◌, length, map, take, get_or, Option, Some, None, is_none, position, Ok, Err, refl, sym, ◌∙◌, ap, arith}
 use Rattle.std.specs.List.{position_or_len}
-use Rattle.std.proofs.lemmas.Bool.{le-ltb, lt-ltb, false≢true}
+use Rattle.std.proofs.lemmas.Bool.{le-ltb, lt-ltb}
 use Rattle.std.proofs.lemmas.List.{get_or-map, length-map, take-map}
-use Rattle.std.proofs.lemmas.List.Sums.{position_or_len_is}
 use Rattle.pre_table.specs.Rows.{somes, unless_at}
 
 somes_of : {A : Type 0} (as_ : List A) → somes (map Some as_) ≡ as_

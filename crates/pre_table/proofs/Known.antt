@@ -1,12 +1,11 @@
 -- The keys of a table and of its members.
-use Rattle.std.proofs.Common.{◌≡◌, ℕ, Bool, true, false, ◌&&◌, ◌||◌, List, [], ◌∷◌, map, Bor, String, Global, string_bytes, refl, ap, ◌∙◌, cond}
+use Rattle.std.proofs.Common.{◌≡◌, ℕ, ◌&&◌, ◌||◌, List, [], ◌∷◌, map, Bor, String, Global, string_bytes, refl, ap}
 use Rattle.std.specs.List.{list_all, list_any}
 use Rattle.std.specs.Map.{keys_of}
 use Rattle.std.specs.Str.{bytes_eq}
-use Rattle.toml.specs.Data.{Members}
 use Rattle.toml.specs.View.{members_view}
 use Rattle.toml.specs.declared.value.Value.{Value}
-use Rattle.pre_table.specs.Documents.{keys_in, is_one_of, has_only}
+use Rattle.pre_table.specs.Documents.{is_one_of, has_only}
 
 pub known_texts : (known : List (Bor (List ℕ))) (key : List ℕ) → list_any (λ k. bytes_eq k.now key) known ≡ is_one_of (map (λ k. k.now) known) key
 known_texts [] key = refl

@@ -1,39 +1,16 @@
 -- Raw rows without a fault of names, ends, ranges or counts.
-use Rattle.std.proofs.Common.{◌≡◌, ℕ, zero, suc, ◌<◌, ◌≤◌, Bool, true, false, not, ◌&&◌, ◌||◌, List, [], ◌∷◌, length, take, get_or, Option, Some, None, option_map, position, All, AllPairs, nat_le, refl, sym, ◌∙◌, ap, arith, IsTrue}
+use Rattle.std.proofs.Common.{◌≡◌, ℕ, ◌<◌, ◌≤◌, false, not, ◌&&◌, ◌||◌, List, length, take, get_or, None, All, AllPairs, nat_le, arith, IsTrue}
 use Rattle.std.specs.List.{list_any}
 use Rattle.std.specs.Str.{bytes_eq}
 use Rattle.std.proofs.lemmas.Bool.{not-false, or_parts, and_parts, leb-true}
-use Rattle.std.proofs.lemmas.List.{get_or-take, length-take}
 use Rattle.pre_text.specs.Words.{is_name}
 use Rattle.pre_table.specs.Values.{is_within}
-use Rattle.pre_topo.specs.declared.faults.TopoFault.{TopoFault}
 use Rattle.pre_topo.specs.declared.raw.RawNetwork.{RawNetwork}
 use Rattle.pre_topo.specs.declared.raw.RawNode.{RawNode}
 use Rattle.pre_topo.specs.declared.raw.RawLink.{RawLink}
-use Rattle.pre_table.specs.FirstFaults.{first_of, first_row}
-use Rattle.pre_topo.specs.FileRules.{unless, name_breaks, name_fault, is_named, is_node, joins, ends_break, end_fault, timing_in_range, node_in_range, link_in_range, range_fault, counts_hold, rows_fault}
-use Rattle.pre_topo.specs.Holds.{NodesHold, EndsHold, LinksHold, Holds}
-use Rattle.pre_topo.proofs.FirstRows.{none_breaks, none_fails}
-
--- where there is no first, there is none
-pub first_none : {A : Type 0} (o : Option A) (os : List (Option A)) → first_of (o ∷ os) ≡ None → (o ≡ None) × (first_of os ≡ None)
-first_none None os none = (refl, none)
-first_none (Some x) os none = cc
-
-map_none : {A B : Type 0} (f : A → B) (o : Option A) → option_map f o ≡ None → o ≡ None
-map_none f None none = refl
-map_none f (Some x) none = cc
-
-pub unless_none : (b : Bool) (fault : TopoFault) → unless b fault ≡ None → IsTrue b
-unless_none true fault none = refl
-unless_none false fault none = cc
-
--- what a test of any of the elements before a place says of each of them
-none_before : {X : Type 0} (p : X → Bool) (xs : List X) (j : ℕ) → list_any p (take j xs) ≡ false → (i : ℕ) (d : X) → i < j → i < length xs → p (get_or xs i d) ≡ false
-none_before p [] j none i d before within = absurd (omega arith)
-none_before p (x ∷ xs) zero none i d before within = absurd (omega arith)
-none_before p (x ∷ xs) (suc j) none zero d before within = (or_parts (p x) (list_any p (take j xs)) none).0
-none_before p (x ∷ xs) (suc j) none (suc i) d before within = none_before p xs j (or_parts (p x) (list_any p (take j xs)) none).1 i d (omega arith) (omega arith)
+use Rattle.pre_topo.specs.FileRules.{name_breaks, name_fault, is_named, is_node, joins, ends_break, end_fault, timing_in_range, node_in_range, link_in_range, range_fault, counts_hold, rows_fault}
+use Rattle.pre_topo.specs.Holds.{EndsHold, Holds}
+use Rattle.pre_table.specs.NoFaults.{first_none, map_none, unless_none, none_fails, none_breaks, none_before}
 
 module _ (nodes : List RawNode) where
   pub names_hold : name_fault nodes ≡ None → All (λ n. IsTrue (is_name n.name)) nodes × AllPairs (λ m n. bytes_eq m.name n.name ≡ false) nodes

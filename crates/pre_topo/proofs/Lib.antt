@@ -1,6 +1,6 @@
 mod Joined
-mod FirstRows
 mod Faultless
 mod MadeNodes
 mod MadeArcs
 mod MadeNetwork
+mod Written

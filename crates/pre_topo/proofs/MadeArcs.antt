@@ -1,25 +1,22 @@
 -- Arcs that are made of links without a fault.
-use Rattle.std.proofs.Common.{◌≡◌, ◌≢◌, ℕ, zero, suc, ◌+◌, ◌*◌, ◌%◌, ◌<◌, ◌≤◌, ◌^◌, Bool, true, false, ◌&&◌, ◌||◌, List, [], ◌∷◌, length, map, get_or, slice_get, Option, Some, None, All, AllPairs, position, nat_lt, cond, is_some, refl, sym, ◌∙◌, ap, subst, arith, IsTrue, unwrap_or}
+use Rattle.std.proofs.Common.{◌≡◌, ◌≢◌, ℕ, zero, suc, ◌+◌, ◌*◌, ◌<◌, ◌≤◌, ◌^◌, Bool, true, false, ◌&&◌, List, [], ◌∷◌, length, map, get_or, slice_get, Some, All, AllPairs, is_some, refl, sym, ◌∙◌, ap, arith, IsTrue}
 use Rattle.std.specs.List.{list_any, list_all, position_or_len}
 use Rattle.std.specs.Str.{bytes_eq}
 use Rattle.std.specs.Cmp.Lexicographic.{same_text}
-use Rattle.std.proofs.lemmas.Bool.{and_parts, or_parts, or_cases, or_from, true≢false, lt-ltb, and_from}
+use Rattle.std.proofs.lemmas.Bool.{and_parts, or_parts, true≢false, lt-ltb, and_from}
 use Rattle.std.proofs.lemmas.Option.{same_Some}
 use Rattle.std.proofs.lemmas.List.{length-map}
 use Rattle.std.proofs.lemmas.List.Elements.{All-map, All-cons, All-nil, All-head, All-tail}
 use Rattle.std.proofs.lemmas.List.Sums.{AllPass-from_list_all, passes_at_first}
-use Rattle.pre_table.specs.declared.values.Whole.{Whole}
 use Rattle.pre_table.specs.declared.values.Whole.TheVariants.{Natural}
 use Rattle.pre_table.specs.Values.{natural, is_within}
 use Rattle.pre_topo.specs.declared.arcs.Arc.{Arc}
-use Rattle.pre_topo.specs.declared.nodes.Node.{Node}
 use Rattle.pre_topo.specs.declared.raw.RawNode.{RawNode}
 use Rattle.pre_topo.specs.declared.raw.RawLink.{RawLink}
 use Rattle.pre_topo.specs.Arcs.{IsArc, JoinsOther, turned}
-use Rattle.pre_topo.specs.Bounds.{IsBounded}
 use Rattle.pre_topo.specs.FileRules.{is_named, is_node, joins, link_in_range, mode_of, policy_of}
-use Rattle.pre_topo.specs.Holds.{EndsHold, LinksHold}
-use Rattle.pre_topo.specs.Made.{node_named, arc_made, arcs_of_link, arcs_made, nodes_made}
+use Rattle.pre_topo.specs.Holds.{EndsHold}
+use Rattle.pre_topo.specs.Made.{node_named, arc_made, arcs_made, nodes_made}
 use Rattle.pre_topo.proofs.Joined.{bytes_eq-same}
 use Rattle.pre_topo.proofs.MadeNodes.{within}
 

@@ -1,9 +1,8 @@
 -- The network that raw rows without a fault make.
-use Rattle.std.proofs.Common.{◌≡◌, ◌≤◌, ℕ, List, length, Option, None, All, arith, IsTrue, sum_by, nat_le, ◌∷◌}
+use Rattle.std.proofs.Common.{◌≡◌, ◌≤◌, List, length, None, All, arith, sum_by, nat_le}
 use Rattle.pre_table.specs.Values.{natural}
 use Rattle.pre_topo.specs.declared.raw.RawNetwork.{RawNetwork}
 use Rattle.pre_topo.specs.FileRules.{rows_fault, sums_fault}
-use Rattle.pre_topo.specs.Holds.{Holds}
 use Rattle.pre_topo.specs.Made.{timing_made, node_made, nodes_made, arcs_made}
 use Rattle.std.proofs.lemmas.Bool.{leb-true}
 use Rattle.std.proofs.lemmas.List.{length-map}
@@ -13,7 +12,8 @@ use Rattle.pre_topo.specs.declared.faults.TopoFault.TheVariants.{Slots, Wires}
 use Rattle.pre_topo.specs.Arcs.{slots_of_arc, wires_of_arc}
 use Rattle.pre_topo.specs.Bounds.{IsBounded}
 use Rattle.pre_topo.specs.Rules.{IsNetwork}
-use Rattle.pre_topo.proofs.Faultless.{faultless, first_none, unless_none}
+use Rattle.pre_table.specs.NoFaults.{first_none, unless_none}
+use Rattle.pre_topo.proofs.Faultless.{faultless}
 use Rattle.pre_topo.proofs.MadeNodes.{within, timing_is, nodes_are, names_differ}
 use Rattle.pre_topo.proofs.MadeArcs.{arcs_are, arcs_count, arcs_paired, arcs_apart}
 

@@ -1,5 +1,5 @@
 -- Numbers in range, and nodes that are made of rows without a fault.
-use Rattle.std.proofs.Common.{◌≡◌, ◌≢◌, ℕ, ◌<◌, ◌≤◌, ◌^◌, Bool, true, false, ◌&&◌, List, length, map, get_or, Option, Some, None, All, AllPairs, nat_le, refl, sym, ◌∙◌, ap, arith, IsTrue, unwrap_or}
+use Rattle.std.proofs.Common.{◌≡◌, ◌≢◌, ℕ, ◌<◌, ◌≤◌, ◌^◌, false, ◌&&◌, List, length, get_or, Option, Some, None, All, AllPairs, nat_le, sym, ◌∙◌, ap, arith, IsTrue, unwrap_or}
 use Rattle.std.specs.Option.{option_map_or}
 use Rattle.std.specs.Str.{bytes_eq}
 use Rattle.std.proofs.lemmas.Bool.{and_parts, leb-true, true≢false}
@@ -13,7 +13,7 @@ use Rattle.pre_topo.specs.declared.nodes.NodeKind.{NodeKind}
 use Rattle.pre_topo.specs.declared.nodes.NodeKind.TheVariants.{Station, Bridge}
 use Rattle.pre_topo.specs.declared.raw.RawTiming.{RawTiming}
 use Rattle.pre_topo.specs.declared.raw.RawNode.{RawNode}
-use Rattle.pre_topo.specs.FileRules.{kind_of, most_latency, node_in_range, timing_in_range}
+use Rattle.pre_topo.specs.FileRules.{kind_of, most_latency, timing_in_range}
 use Rattle.pre_topo.specs.Holds.{NodesHold}
 use Rattle.pre_topo.specs.Made.{timing_made, node_made, nodes_made}
 use Rattle.pre_topo.specs.Nodes.{IsNode, IsTiming}

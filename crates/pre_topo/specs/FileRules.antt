@@ -1,5 +1,5 @@
 -- The rules of a network file over its raw rows, and the first fault.
-use Rattle.std.specs.Prelude.{ℕ, Bool, true, false, not, ◌&&◌, ◌||◌, ◌^◌, List, [], ◌∷◌, length, take, codes, nat_le, Option, Some, None, is_some, is_none, option_map, position, sum_by, if◌then◌else◌}
+use Rattle.std.specs.Prelude.{ℕ, Bool, false, not, ◌&&◌, ◌||◌, ◌^◌, List, [], ◌∷◌, length, take, codes, nat_le, Option, Some, None, is_some, option_map, position, sum_by, if◌then◌else◌}
 use Rattle.std.specs.List.{list_all, list_any}
 use Rattle.std.specs.Option.{option_map_or}
 use Rattle.std.specs.Str.{bytes_eq}

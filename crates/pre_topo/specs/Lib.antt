@@ -14,3 +14,5 @@ pub mod Made
 pub mod NetworkOf
 pub mod Holds
 pub mod Bounds
+pub mod Text
+pub mod NetworkText

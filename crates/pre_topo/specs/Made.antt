@@ -1,16 +1,13 @@
 -- The network that raw rows without a fault make.
-use Rattle.std.specs.Prelude.{ℕ, List, [], ◌∷◌, map, Option, unwrap_or, position}
+use Rattle.std.specs.Prelude.{ℕ, List, [], ◌∷◌, map, unwrap_or, position}
 use Rattle.std.specs.List.{flat_map}
-use Rattle.pre_base.specs.declared.numbers.NodeId.{NodeId}
 use Rattle.pre_table.specs.Values.{natural}
 use Rattle.pre_topo.specs.declared.arcs.Arc.{Arc}
 use Rattle.pre_topo.specs.declared.arcs.Mode.TheVariants as mode
 use Rattle.pre_topo.specs.declared.arcs.Policy.TheVariants as policy
-use Rattle.pre_topo.specs.declared.network.Network.{Network}
 use Rattle.pre_topo.specs.declared.nodes.Node.{Node}
 use Rattle.pre_topo.specs.declared.nodes.NodeKind.TheVariants.{Station}
 use Rattle.pre_topo.specs.declared.nodes.Timing.{Timing}
-use Rattle.pre_topo.specs.declared.raw.RawNetwork.{RawNetwork}
 use Rattle.pre_topo.specs.declared.raw.RawTiming.{RawTiming}
 use Rattle.pre_topo.specs.declared.raw.RawNode.{RawNode}
 use Rattle.pre_topo.specs.declared.raw.RawLink.{RawLink}

@@ -29,7 +29,7 @@ pub use writing::put_network;
 #[cfg(test)]
 mod tests {
     use super::*;
-    use pre_base::{ArcId, NodeId};
+    use pre_base::{ArcId, MemorySink, NodeId};
     use std::test::Fail;
 
     #[test]
@@ -45,6 +45,43 @@ mod tests {
         ] {
             assert_eq!(rt; net.arc_named(word.as_bytes()), None, "{word}");
         }
+        Ok(())
+    }
+
+    const PAIR: &str = r#"express_from = 4
+
+[timing]
+interval = 30000000000
+ttl = 120
+unit = 1000000000
+verify = 10000000
+
+[[node]]
+name = "a"
+kind = "station"
+latency = 0
+
+[[node]]
+name = "b"
+kind = "station"
+latency = 0
+
+[[link]]
+ends = ["a", "b"]
+cost = 1
+delay = 0
+mode = "on"
+policy = "quiet"
+add_frag = 0
+rings = [64, 64, 64, 64, 64, 64, 64, 64]
+"#;
+
+    #[test]
+    fn text_of_pair(rt: HostRuntime) -> Result<(), Fail> {
+        let net = pair(rt.alloc())?;
+        let mut sink = MemorySink::make(rt.alloc(), 512, 7, &[])?;
+        assert!(rt; put_network(&net, &mut sink).is_ok());
+        assert_eq!(rt; sink.octets(), PAIR.as_bytes());
         Ok(())
     }
 

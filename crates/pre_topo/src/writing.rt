@@ -1,19 +1,29 @@
-ghost use Rattle.std.specs.Prelude.{◌<◌};
+ghost use Rattle.std.specs.Prelude.{◌≡◌, ◌<◌};
+ghost use Rattle.std.specs.List.{flat_map};
 ghost use Rattle.pre_base.specs.Faults.{HasCause};
+ghost use Rattle.pre_base.specs.Told.{WhereTold};
+ghost use Rattle.pre_base.specs.Sinks.{TakesAll};
+ghost use Rattle.pre_text.specs.Spelled.{spelled};
+ghost use Rattle.pre_topo.specs.Text.{kind_word, mode_word, policy_word, head_text, node_text, nodes_text, link_text, links_text, ring_text};
+ghost use Rattle.pre_topo.specs.NetworkText.{network_text};
 
 use crate::names::name_of;
 use crate::{Arc, Mode, Network, Node, NodeKind, Policy, Timing};
 use pre_base::{Failed, Sink};
 use pre_text::{Word, put_word};
 
-fn kind_word(kind: NodeKind) -> &'static [u8] {
+fn kind_word(kind: NodeKind) -> &'static [u8]
+    ensures { result.now ≡ kind_word kind }
+{
     match kind {
         NodeKind::Station => b"station",
         NodeKind::Bridge => b"bridge",
     }
 }
 
-fn mode_word(mode: Mode) -> &'static [u8] {
+fn mode_word(mode: Mode) -> &'static [u8]
+    ensures { result.now ≡ mode_word mode }
+{
     match mode {
         Mode::Off => b"off",
         Mode::On => b"on",
@@ -21,7 +31,9 @@ fn mode_word(mode: Mode) -> &'static [u8] {
     }
 }
 
-fn policy_word(policy: Policy) -> &'static [u8] {
+fn policy_word(policy: Policy) -> &'static [u8]
+    ensures { result.now ≡ policy_word policy }
+{
     match policy {
         Policy::Pass => b"pass",
         Policy::Quiet => b"quiet",
@@ -30,7 +42,8 @@ fn policy_word(policy: Policy) -> &'static [u8] {
 
 /// Writes words with nothing between them.
 fn put_words<S: Sink>(sink: &mut S, words: &[Word]) -> Result<(), Failed>
-    ensures { HasCause (S.faults sink.old) (S.faults sink.new) result }
+    ensures octets { WhereTold (S.tells sink.old) (S.tells sink.new) (TakesAll result (flat_map spelled words.now)) }
+    ensures cause { HasCause (S.faults sink.old) (S.faults sink.new) result }
 {
     for word in words {
         put_word(sink, word)?;
@@ -39,7 +52,8 @@ fn put_words<S: Sink>(sink: &mut S, words: &[Word]) -> Result<(), Failed>
 }
 
 fn put_head<S: Sink>(sink: &mut S, express_from: u8, timing: &Timing) -> Result<(), Failed>
-    ensures { HasCause (S.faults sink.old) (S.faults sink.new) result }
+    ensures octets { WhereTold (S.tells sink.old) (S.tells sink.new) (TakesAll result (head_text express_from timing.now)) }
+    ensures cause { HasCause (S.faults sink.old) (S.faults sink.new) result }
 {
     put_words(
         sink,
@@ -60,7 +74,8 @@ fn put_head<S: Sink>(sink: &mut S, express_from: u8, timing: &Timing) -> Result<
 }
 
 fn put_node<S: Sink>(sink: &mut S, node: &Node) -> Result<(), Failed>
-    ensures { HasCause (S.faults sink.old) (S.faults sink.new) result }
+    ensures octets { WhereTold (S.tells sink.old) (S.tells sink.new) (TakesAll result (node_text node.now)) }
+    ensures cause { HasCause (S.faults sink.old) (S.faults sink.new) result }
 {
     put_words(
         sink,
@@ -77,7 +92,8 @@ fn put_node<S: Sink>(sink: &mut S, node: &Node) -> Result<(), Failed>
 }
 
 fn put_nodes<S: Sink>(sink: &mut S, nodes: &[Node]) -> Result<(), Failed>
-    ensures { HasCause (S.faults sink.old) (S.faults sink.new) result }
+    ensures octets { WhereTold (S.tells sink.old) (S.tells sink.new) (TakesAll result (nodes_text nodes.now)) }
+    ensures cause { HasCause (S.faults sink.old) (S.faults sink.new) result }
 {
     for node in nodes {
         put_node(sink, node)?;
@@ -87,12 +103,14 @@ fn put_nodes<S: Sink>(sink: &mut S, nodes: &[Node]) -> Result<(), Failed>
 
 fn ring(arc: &Arc, prio: usize) -> Word<'static, 'static>
     requires { prio < 8 }
+    ensures { spelled result ≡ ring_text arc.now prio }
 {
     Word::Number(u64::from(arc.rings[prio]))
 }
 
 fn put_link<S: Sink>(sink: &mut S, nodes: &[Node], arc: &Arc) -> Result<(), Failed>
-    ensures { HasCause (S.faults sink.old) (S.faults sink.new) result }
+    ensures octets { WhereTold (S.tells sink.old) (S.tells sink.new) (TakesAll result (link_text nodes.now arc.now)) }
+    ensures cause { HasCause (S.faults sink.old) (S.faults sink.new) result }
 {
     let comma = Word::Octets(b", ");
     put_words(
@@ -134,23 +152,26 @@ fn put_link<S: Sink>(sink: &mut S, nodes: &[Node], arc: &Arc) -> Result<(), Fail
 }
 
 fn put_links<S: Sink>(sink: &mut S, nodes: &[Node], arcs: &[Arc]) -> Result<(), Failed>
-    ensures { HasCause (S.faults sink.old) (S.faults sink.new) result }
+    ensures octets { WhereTold (S.tells sink.old) (S.tells sink.new) (TakesAll result (links_text nodes.now arcs.now)) }
+    ensures cause { HasCause (S.faults sink.old) (S.faults sink.new) result }
 {
     let mut rest = arcs;
-    while let [arc, _, ..] = rest {
+    while let [arc, _, further @ ..] = rest {
         put_link(sink, nodes, arc)?;
-        rest = &rest[2..];
+        rest = further;
     }
     Ok(())
 }
 
-/// Writes the network as a file in TOML, which `read_network` reads as the same network.
+/// Writes the network as a file in TOML with each of its keys: the top and the timing, the nodes, and the links by their
+/// arcs from the first end to the second. Tests show that `read_network` reads the same network from it.
 ///
 /// # Errors
 ///
-/// `Failed` only where the sink failed.
+/// `Failed` only where the sink failed. Then a front of the file is written.
 pub fn put_network<S: Sink>(net: &Network, sink: &mut S) -> Result<(), Failed>
-    ensures { HasCause (S.faults sink.old) (S.faults sink.new) result }
+    ensures octets { WhereTold (S.tells sink.old) (S.tells sink.new) (TakesAll result (network_text net.now)) }
+    ensures cause { HasCause (S.faults sink.old) (S.faults sink.new) result }
 {
     put_head(sink, net.express_from, &net.timing)?;
     put_nodes(sink, net.nodes.as_slice())?;

@@ -1,9 +1,7 @@
-use Rattle.std.proofs.Common.{◌≡◌, ◌<◌, ◌++◌, ◌∷◌, [], List, length, get_or, slice_get, option_map, map, subst, ap, sym, ◌∙◌, ℕ, take}
-use Rattle.std.specs.List.{enumerate_from}
+use Rattle.std.proofs.Common.{◌≡◌, ◌<◌, List, length, get_or, slice_get, option_map, subst, ap, ◌∙◌}
 use Rattle.pre_streams.specs.declared.raw.RawFlow.{RawFlow}
 use Rattle.pre_streams.specs.declared.raw.RawCurve.{RawCurve}
-use Rattle.pre_streams.specs.declared.rows.Row.{Row}
-use Rattle.pre_streams.specs.Made.{row_made, row_parts, curve_parts, curve_made}
+use Rattle.pre_streams.specs.Made.{curve_parts, curve_made}
 use Rattle.pre_streams.proofs.Rising.{row_more}
 use Rattle.pre_streams.proofs.building.rows_made.Goals as goal
 

@@ -8,5 +8,5 @@ loop-row-preserved c k d arc below =
     none_up_to (TakesArcBy c.args.node c.args.vid arc) c.args.rows.now c.loop-row.row-index c.row-item.result c.loop-row-test.true c.row-item.is
     (λ i e less. c.loop-row.invariant i e arc less) (c.in_default.ensures.missing arc) k d below
 
-pub returns-clause-missing : goal.returns-clause-missing
-returns-clause-missing c arc = none_of_all (TakesArcBy c.args.node c.args.vid arc) c.args.rows.now c.loop-row.row-index (λ less. omega (arith, less, c.loop-row-test.false)) (λ i e less. c.loop-row.invariant i e arc less)
+pub returns : goal.returns
+returns c arc = none_of_all (TakesArcBy c.args.node c.args.vid arc) c.args.rows.now c.loop-row.row-index (λ less. omega (arith, less, c.loop-row-test.false)) (λ i e less. c.loop-row.invariant i e arc less)

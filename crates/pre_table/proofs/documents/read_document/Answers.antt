@@ -1,4 +1,4 @@
-use Rattle.std.proofs.Common.{◌≡◌, List, ℕ, ap, sym, ◌∙◌, Some}
+use Rattle.std.proofs.Common.{List, ℕ, ap, sym, ◌∙◌, Some}
 use Rattle.toml.specs.Parse.{parse_document}
 use Rattle.toml.specs.View.{table_view}
 use Rattle.pre_table.proofs.Texts.{document_is, no_document}

@@ -1,8 +1,7 @@
-use Rattle.std.proofs.Common.{◌≡◌, map, sym, ◌∙◌, Err, ap}
+use Rattle.std.proofs.Common.{◌≡◌, Err, ap}
 use Rattle.std.proofs.lemmas.List.{take_all}
 use Rattle.toml.specs.Data.{as_str}
 use Rattle.toml.specs.View.{view}
-use Rattle.pre_table.specs.declared.rows.Unread.{Unread}
 use Rattle.pre_table.specs.declared.rows.Unread.TheVariants.{Field}
 use Rattle.pre_table.proofs.Elements.{each_seen, one_unseen}
 use Rattle.pre_table.proofs.lists.copied_texts.Goals as goal

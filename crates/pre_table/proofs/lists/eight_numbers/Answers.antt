@@ -1,8 +1,7 @@
-use Rattle.std.proofs.Common.{◌≡◌, ◌<◌, ◌≤◌, ℕ, map, sym, ◌∙◌, arith, length, length-set, rules, Some, take, List}
+use Rattle.std.proofs.Common.{◌≡◌, ◌<◌, ◌≤◌, sym, ◌∙◌, arith, length, length-set, Some, take}
 use Rattle.std.proofs.lemmas.List.{take_all}
 use Rattle.toml.specs.View.{view}
-use Rattle.pre_table.specs.declared.values.Whole.{Whole}
-use Rattle.pre_table.specs.Values.{as_whole, each_read}
+use Rattle.pre_table.specs.Values.{as_whole}
 use Rattle.pre_table.proofs.Elements.{each_seen, filled}
 use Rattle.pre_table.proofs.lists.eight_numbers.Goals as goal
 

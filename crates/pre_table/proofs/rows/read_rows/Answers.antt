@@ -1,8 +1,7 @@
-use Rattle.std.proofs.Common.{◌≡◌, ℕ, map, sym, ap, Err, ◌∙◌}
+use Rattle.std.proofs.Common.{◌≡◌, map, ap, Err, ◌∙◌}
 use Rattle.std.proofs.lemmas.List.{take_all}
 use Rattle.toml.specs.View.{view}
-use Rattle.pre_table.specs.declared.rows.RowFault.TheVariants.{Field}
-use Rattle.pre_table.specs.Rows.{row_of, rows_of}
+use Rattle.pre_table.specs.Rows.{row_of}
 use Rattle.pre_table.proofs.Gathered.{all_read, read_until_seen}
 use Rattle.pre_table.proofs.rows.read_rows.Goals as goal
 

@@ -1,4 +1,4 @@
-use Rattle.std.proofs.Common.{◌≡◌, List, map, sym, ◌∙◌, ap}
+use Rattle.std.proofs.Common.{List, map, sym, ◌∙◌, ap}
 use Rattle.toml.specs.View.{view}
 use Rattle.toml.specs.declared.value.Value.{Value}
 use Rattle.pre_table.proofs.Elements.{items_in-of}

@@ -1,11 +1,8 @@
-use Rattle.std.proofs.Common.{◌≡◌, ◌≤◌, ◌<◌, ℕ, List, All, sym, ◌∙◌, None, IsTrue, arith, ap, subst}
-use Rattle.pre_table.specs.Values.{natural}
+use Rattle.std.proofs.Common.{◌≡◌, List, sym, ◌∙◌, None, arith, subst}
 use Rattle.pre_topo.specs.declared.arcs.Arc.{Arc}
 use Rattle.pre_topo.specs.declared.nodes.Node.{Node}
-use Rattle.pre_topo.specs.declared.raw.RawLink.{RawLink}
-use Rattle.pre_topo.specs.Bounds.{IsBounded}
-use Rattle.pre_topo.specs.FileRules.{link_in_range, rows_fault, sums_fault}
-use Rattle.pre_topo.specs.Made.{nodes_made, arcs_made, timing_made}
+use Rattle.pre_topo.specs.FileRules.{rows_fault, sums_fault}
+use Rattle.pre_topo.specs.Made.{nodes_made, arcs_made}
 use Rattle.pre_topo.proofs.Faultless.{faultless}
 use Rattle.pre_topo.proofs.MadeNodes.{within}
 use Rattle.pre_topo.proofs.MadeNetwork.{bounded, network_is}
