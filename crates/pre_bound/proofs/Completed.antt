@@ -1,8 +1,8 @@
 -- A good certificate leaves no port that passes the limit, and no ring that is too small.
 use Rattle.std.proofs.Common.{◌≡◌, ℕ, zero, suc, ◌+◌, ◌*◌, ◌/◌, ◌%◌, ◌<◌, ◌≤◌, Bool, true, false, cond, List, [], ◌∷◌, ◌++◌, Some, refl, sym, ◌∙◌, ap, subst, arith, inl, inr, length, get_or, map, take}
-use Rattle.std.specs.Prelude.{slice_get, sum_by, filter, Contains, All, IsSome, nat_lt, nat_le, ◌&&◌, ◌||◌}
+use Rattle.std.specs.Prelude.{slice_get, sum_by, filter, Contains, All, IsSome, nat_lt}
 use Rattle.std.specs.List.{list_any, enumerate_from, flat_map, range_with_len}
-use Rattle.std.proofs.lemmas.Bool.{cases_Bool, le-leb, leb-false, or_from, false_from_ne_true, and_parts, ltb-true, true≢false}
+use Rattle.std.proofs.lemmas.Bool.{cases_Bool, or_from, false_from_ne_true, and_parts, ltb-true, true≢false}
 use Rattle.std.proofs.lemmas.Option.{slice_get-get_or}
 use Rattle.std.proofs.lemmas.List.Sums.{sum_by-cons}
 use Rattle.std.proofs.lemmas.List.Elements.{All-nil, All-cons, All-head, All-tail}
@@ -13,17 +13,16 @@ use Rattle.pre_topo.specs.declared.network.Network.{Network}
 use Rattle.pre_streams.specs.declared.rows.Row.{Row}
 use Rattle.pre_streams.specs.declared.rows.Streams.{Streams}
 use Rattle.pre_streams.specs.Fits.{Fits}
-use Rattle.pre_bound.specs.declared.rows.PortRow.{PortRow}
 use Rattle.pre_bound.specs.declared.rows.HopRow.{HopRow}
 use Rattle.pre_bound.specs.declared.certificate.Certificate.{Certificate}
 use Rattle.pre_bound.specs.Limits.{limit, PortIsWithin}
 use Rattle.pre_bound.specs.Solutions.{least_growth}
-use Rattle.pre_bound.specs.Uses.{TakesAt, hop_of, takes, is_on, is_stream, has_port, rate_of, cost_at}
-use Rattle.pre_bound.specs.Along.{Delays, burst_at, burst_on, hop_ticks, route_ticks, least_block, least_work, port_delay, port_size}
+use Rattle.pre_bound.specs.Uses.{TakesAt, hop_of, takes, is_stream, has_port, rate_of, cost_at}
+use Rattle.pre_bound.specs.Along.{Delays, burst_on, hop_ticks, route_ticks, least_block, least_work, port_delay, port_size}
 use Rattle.pre_bound.specs.Values.{Values}
 use Rattle.pre_bound.specs.Good.{AreGood, AtPorts, IsStream}
 use Rattle.pre_bound.specs.Settled.{Settled, PriosBelow, HaveRoom}
-use Rattle.pre_bound.specs.Listed.{Says, GoodCertificate, HasGood, port_row, hop_row, bound_row}
+use Rattle.pre_bound.specs.Listed.{Says, HasGood, port_row, hop_row, bound_row}
 use Rattle.pre_bound.specs.Places.{ports_of, streams_of, hops_of}
 use Rattle.pre_bound.specs.Passing.{next_passes, ticks_before, ticks_through, stream_passes, port_passes, passes, least_port}
 use Rattle.pre_bound.specs.Order.{Rise}

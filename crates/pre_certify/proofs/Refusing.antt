@@ -1,27 +1,26 @@
 -- A good certificate leaves no refusal a cause, and a cause of one leaves no other.
-use Rattle.std.proofs.Common.{◌≡◌, ◌⊎◌, ℕ, zero, suc, ◌+◌, ◌*◌, ◌/◌, ◌<◌, ◌≤◌, Bool, true, false, List, [], ◌∷◌, Result, Ok, Err, refl, sym, ◌∙◌, ap, subst, arith, inl, inr, length}
+use Rattle.std.proofs.Common.{◌≡◌, ◌⊎◌, ℕ, ◌+◌, ◌*◌, ◌/◌, ◌<◌, List, [], ◌∷◌, Result, Ok, Err, refl, sym, ◌∙◌, ap, arith, inl, inr, length}
 use Rattle.std.specs.Prelude.{IfErr, IfOk}
-use Rattle.std.proofs.lemmas.Bool.{cases_lt, cases_order, leb-true, true≢false}
+use Rattle.std.proofs.lemmas.Bool.{cases_order, leb-true, true≢false}
 use Rattle.pre_base.specs.declared.numbers.ArcId.{ArcId}
 use Rattle.pre_topo.specs.declared.network.Network.{Network}
 use Rattle.pre_streams.specs.declared.rows.Row.{Row}
 use Rattle.pre_streams.specs.declared.rows.Streams.{Streams}
 use Rattle.pre_streams.specs.Fits.{Fits}
 use Rattle.pre_bound.specs.declared.certificate.Certificate.{Certificate}
-use Rattle.pre_bound.specs.Uses.{has_port, ring_at, rates_on, cost_at}
-use Rattle.pre_bound.specs.Along.{Delays, port_delay, port_size}
+use Rattle.pre_bound.specs.Uses.{rates_on, cost_at}
+use Rattle.pre_bound.specs.Along.{port_size}
 use Rattle.pre_bound.specs.Chains.{AreRanks}
-use Rattle.pre_bound.specs.Settled.{PriosBelow, Settled}
+use Rattle.pre_bound.specs.Settled.{PriosBelow}
 use Rattle.pre_bound.specs.Listed.{HasGood}
 use Rattle.pre_bound.specs.Least.{Least}
 use Rattle.pre_bound.specs.Order.{Rise}
-use Rattle.pre_bound.specs.Passing.{passes}
 use Rattle.pre_bound.specs.Promises.{RanksRise}
 use Rattle.pre_bound.specs.Complete.{SettledBelow, GoodPassNowhere, GoodHaveRoom, SettledAlike}
-use Rattle.pre_certify.specs.Loads.{FirstOverload, NoOverload, is_overloaded}
+use Rattle.pre_certify.specs.Loads.{FirstOverload, NoOverload}
 use Rattle.pre_certify.specs.Turns.{turn_of}
 use Rattle.pre_certify.specs.Causes.{Cause, Walks, Closes, IsCycle, FirstLarge, FirstShort}
-use Rattle.pre_certify.specs.Refusals.{SameRefusal, NoneRefuses, NoOtherRefuses, IsAlone, GoodRefusesNone, OneRefuses}
+use Rattle.pre_certify.specs.Refusals.{NoneRefuses, NoOtherRefuses, IsAlone, GoodRefusesNone, OneRefuses}
 use Rattle.pre_certify.specs.declared.unfit.Unfit.{Unfit}
 use Rattle.pre_certify.specs.declared.unfit.Unfit.TheVariants.{Overload, Cycle, Large, Ring, Memory}
 
@@ -197,6 +196,9 @@ module _ (net : Network) (streams : Streams) (fits : Fits net streams) (prios : 
     one_refuses (Large arc prio) cause = inr (one_large arc prio cause.0 cause.1)
     one_refuses (Ring arc prio need) cause = inr (one_ring arc prio need cause.0 cause.1)
     one_refuses Memory cause = inl refl
+
+pub ranks_leave_no_cycle : (rows : List Row) (rank : ℕ → ℕ) (arcs : List ArcId) → Rise rows rank → IsCycle rows arcs → ⊥
+ranks_leave_no_cycle rows rank arcs rise cycle = no_cycle rows rank rise arcs cycle.closes
 
 pub good_refuses_none : RanksRise → GoodPassNowhere → GoodHaveRoom → GoodRefusesNone
 good_refuses_none rises nowhere room net streams fits prios good = none_refuses net streams fits prios rises nowhere room good

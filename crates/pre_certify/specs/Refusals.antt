@@ -1,12 +1,14 @@
 -- Which refusals go together: none with a good certificate, and no two but cycles.
-use Rattle.std.specs.Prelude.{◌≡◌, ◌⊎◌, Bool, true, false, List}
+use Rattle.std.specs.Prelude.{◌≡◌, ◌⊎◌, ℕ, Bool, true, false, List}
+use Rattle.pre_base.specs.declared.numbers.ArcId.{ArcId}
 use Rattle.pre_topo.specs.declared.network.Network.{Network}
 use Rattle.pre_streams.specs.declared.rows.Row.{Row}
 use Rattle.pre_streams.specs.declared.rows.Streams.{Streams}
 use Rattle.pre_streams.specs.Fits.{Fits}
 use Rattle.pre_bound.specs.Settled.{PriosBelow}
 use Rattle.pre_bound.specs.Listed.{HasGood}
-use Rattle.pre_certify.specs.Causes.{Cause}
+use Rattle.pre_bound.specs.Order.{Rise}
+use Rattle.pre_certify.specs.Causes.{Cause, IsCycle}
 use Rattle.pre_certify.specs.declared.unfit.Unfit.{Unfit}
 use Rattle.pre_certify.specs.declared.unfit.Unfit.TheVariants.{Overload, Cycle, Large, Ring, Memory}
 
@@ -41,3 +43,7 @@ GoodRefusesNone = (net : Network) (streams : Streams) → Fits net streams → P
 -- one refusal at most has a cause
 abbrev pub OneRefuses : Type 0
 OneRefuses = (net : Network) (streams : Streams) (e : Unfit) → Fits net streams → PriosBelow streams.rows → Cause net streams.rows e → (e ≡ Memory) ⊎ NoOtherRefuses net streams.rows e
+
+-- where ranks rise along each route, there is no cycle
+abbrev pub RanksLeaveNoCycle : Type 0
+RanksLeaveNoCycle = (rows : List Row) (rank : ℕ → ℕ) (arcs : List ArcId) → Rise rows rank → ¬ IsCycle rows arcs
