@@ -1,16 +1,14 @@
 -- The cause of an answer leaves no other, where a network is read.
-use Rattle.std.proofs.Common.{◌≡◌, ◌≢◌, ◌⊎◌, inl, inr, ℕ, List, Some, None, Ok, Err, refl, sym, ◌∙◌, ap, subst, map, Result, unwrap_or}
+use Rattle.std.proofs.Common.{◌≡◌, ◌≢◌, ◌⊎◌, inl, inr, ℕ, List, Some, None, Ok, Err, refl, sym, ◌∙◌, ap, subst, map, Result}
 use Rattle.std.proofs.lemmas.Option.{none-some}
-use Rattle.pre_base.specs.Faults.{Rose}
 use Rattle.pre_base.specs.Shelves.{Told, Files}
 use Rattle.pre_topo.specs.declared.network.Network.{Network}
 use Rattle.pre_topo.specs.NetworkOf.{network_of, parts_of}
 use Rattle.pre_streams.specs.declared.rows.Streams.{Streams}
 use Rattle.pre_streams.specs.StreamsOf.{streams_of}
-use Rattle.pre_streams.specs.Made.{RowParts, row_parts}
+use Rattle.pre_streams.specs.Made.{row_parts}
 use Rattle.pre_bound.specs.Listed.{HasGood}
 use Rattle.pre_certify.specs.Causes as causes
-use Rattle.pre_certify.specs.Refusals.{SameRefusal}
 use Rattle.pre_certify.specs.declared.unfit.Unfit.{Unfit}
 use Rattle.pre_certify.specs.declared.unfit.Unfit.TheVariants as unfit
 use Rattle.pre_cli.specs.declared.statuses.Status.{Status}

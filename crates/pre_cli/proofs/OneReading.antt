@@ -1,13 +1,8 @@
 -- A text is one network, and one list of streams for it.
-use Rattle.std.proofs.Common.{◌≡◌, ℕ, ◌<◌, ◌≤◌, ◌^◌, List, [], ◌∷◌, Option, Some, None, Result, Ok, Err, refl, sym, ◌∙◌, ap, subst, length, map}
+use Rattle.std.proofs.Common.{◌≡◌, ℕ, ◌≤◌, ◌^◌, List, [], ◌∷◌, Option, Some, None, refl, ◌∙◌, ap, subst, length, map}
 use Rattle.std.specs.Prelude.{option_map}
 use Rattle.std.proofs.Props.{props}
-use Rattle.pre_base.specs.declared.numbers.NodeId.{NodeId}
-use Rattle.pre_base.specs.declared.numbers.ArcId.{ArcId}
 use Rattle.pre_curve.specs.declared.curves.Curve.{Curve}
-use Rattle.pre_topo.specs.declared.nodes.Node.{Node}
-use Rattle.pre_topo.specs.declared.nodes.Timing.{Timing}
-use Rattle.pre_topo.specs.declared.arcs.Arc.{Arc}
 use Rattle.pre_topo.specs.declared.network.Network.{Network}
 use Rattle.pre_topo.specs.Rules.{IsNetwork}
 use Rattle.pre_topo.specs.NetworkOf.{Parts, parts_of}

@@ -12,7 +12,6 @@ use Rattle.pre_topo.specs.declared.network.Network.{Network}
 use Rattle.pre_topo.specs.declared.faults.TopoFault.{TopoFault}
 use Rattle.pre_topo.specs.declared.faults.TopoFault.TheVariants as topo
 use Rattle.pre_topo.specs.NetworkOf.{network_of, parts_of}
-use Rattle.pre_streams.specs.declared.rows.Row.{Row}
 use Rattle.pre_streams.specs.declared.rows.Streams.{Streams}
 use Rattle.pre_streams.specs.declared.faults.StreamFault.{StreamFault}
 use Rattle.pre_streams.specs.declared.faults.StreamFault.TheVariants as stream
