@@ -16,8 +16,9 @@ use Rattle.pre_bound.specs.Along.{Delays, burst_at, burst_on, bursts_on, hop_tic
 use Rattle.pre_bound.specs.Values.{Values}
 use Rattle.pre_bound.specs.Clauses.{certified_bursts, Block}
 use Rattle.pre_bound.specs.Chains.{EndsChain, AreRanks}
-use Rattle.pre_bound.specs.Good.{AreGood, IsStream}
+use Rattle.pre_bound.specs.Good.{AreGood, IsStream, AtPorts}
 use Rattle.pre_bound.specs.Settled.{Settled, ValuesAtMost, values_over, PriosBelow}
+use Rattle.pre_bound.specs.Order.{Rise}
 use Rattle.pre_bound.proofs.Within.{ArcsWithin}
 use Rattle.pre_bound.proofs.Solved.{least_delay-le, least_growth-le, least_size-le}
 use Rattle.pre_bound.proofs.Sums.{sums_le, greatest_le, mul_max, sum_by-le-at}
@@ -51,9 +52,17 @@ least_block-le net rows v a p clause =
     greatest_le (λ r. r.max + 20) (is_on a 0 p) (cost_at net a) (v.block a p) (max 84 (preemptable_at net a)) rows
     (mul_max (cost_at net a) 84 (preemptable_at net a) (v.block a p) clause.frame clause.preemptable) (λ r listed on. clause.lower r listed on)
 
-module _ (net : Network) (rows : List Row) (delays : Delays) (v : Values) (within : ArcsWithin net rows) (prio_below : PriosBelow rows) (good : AreGood net rows v) where
+-- a greater delay takes more ticks
+pub hop_le : (net : Network) (a d e : ℕ) → d ≤ e → hop_ticks net a d ≤ hop_ticks net a e
+hop_le net a d e h = shares (slice_get net.arcs a)
+  where
+    shares : (o : Option Arc) → option_map_or (λ x. latency_at net.nodes x.from.0 + (d - 12 * x.cost) + x.delay) o 0 ≤ option_map_or (λ x. latency_at net.nodes x.from.0 + (e - 12 * x.cost) + x.delay) o 0
+    shares None = omega arith
+    shares (Some x) = omega arith
+
+module _ (net : Network) (rows : List Row) (delays : Delays) (v : Values) (within : ArcsWithin net rows) (prio_below : PriosBelow rows) (good : AreGood net rows v) (rank : ℕ → ℕ) (rise : Rise rows rank) where
   -- a stream's burst at a hop, where the delays before it are at most those certified
-  burst_le : (stream : ℕ) (r : Row) → IsStream rows stream r → (j : ℕ) → j < length r.arcs
+  pub burst_le : (stream : ℕ) (r : Row) → IsStream rows stream r → (j : ℕ) → j < length r.arcs
       → ((i a : ℕ) → i < j → TakesAt r i a → delays a r.prio ≤ v.delay a r.prio) → burst_at net delays r j ≤ v.burst stream j
   burst_le stream r is zero h below = good.first_burst stream r is
   burst_le stream r is (suc k) h below =
@@ -75,7 +84,7 @@ module _ (net : Network) (rows : List Row) (delays : Delays) (v : Values) (withi
 
   -- the bursts at an arc, where the delays at arcs of lower rank are at most those certified
   bursts_le : (a low high : ℕ) → high ≤ 8
-      → ((b q : ℕ) → v.rank b < v.rank a → b < length net.arcs → q < 8 → has_port rows b q ≡ true → delays b q ≤ v.delay b q)
+      → ((b q : ℕ) → rank b < rank a → b < length net.arcs → q < 8 → has_port rows b q ≡ true → delays b q ≤ v.delay b q)
       → bursts_on net delays a low high rows ≤ certified_bursts v a low high rows
   bursts_le a low high top below =
       sums_le (burst_on net delays a) (λ e. v.burst e.0 (hop_of a e.1)) (is_on a low high) 0 rows
@@ -89,12 +98,12 @@ module _ (net : Network) (rows : List Row) (delays : Delays) (v : Values) (withi
       let inside = TakesAt-place r hop a here in
       burst_le k r (record { row = row; express = on.express }) hop inside.0
       (λ j c less there.
-      let rises = rank_rises rows v.rank good.rank_order r listed on.express j hop c a less there here in
+      let rises = rank_rises rows rank rise r listed on.express j hop c a less there here in
       below c r.prio rises (within r listed j c there) (omega (arith, on.below)) (has_port-from rows r c j listed on.express there)))
 
   -- the delay of a port, where those at arcs of lower rank are at most those certified
-  delay_le : (a p : ℕ) → a < length net.arcs → p < 8 → has_port rows a p ≡ true
-      → ((b q : ℕ) → v.rank b < v.rank a → b < length net.arcs → q < 8 → has_port rows b q ≡ true → delays b q ≤ v.delay b q)
+  pub delay_le : (a p : ℕ) → a < length net.arcs → p < 8 → has_port rows a p ≡ true
+      → ((b q : ℕ) → rank b < rank a → b < length net.arcs → q < 8 → has_port rows b q ≡ true → delays b q ≤ v.delay b q)
       → port_delay net rows delays a p ≤ v.delay a p
   delay_le a p inside prio port below =
       let work = good.work a p inside prio port in
@@ -106,37 +115,39 @@ module _ (net : Network) (rows : List Row) (delays : Delays) (v : Values) (withi
       (least_block-le net rows v a p (good.block a p inside prio port)) enough
       (subst (λ n. CoversDelay (v.block a p) (v.work a p) n (cost_at net a) (v.delay a p)) work.rate covers)
 
+  -- its work and its size
+  pub work_le : (a p : ℕ) → a < length net.arcs → p < 8 → has_port rows a p ≡ true
+      → ((b q : ℕ) → rank b < rank a → b < length net.arcs → q < 8 → has_port rows b q ≡ true → delays b q ≤ v.delay b q)
+      → least_work net rows delays a p ≤ v.work a p
+  work_le a p inside prio port below =
+      let work = good.work a p inside prio port in
+      let bursts = bursts_le a p 8 (omega arith) below in
+      let product = mul-le-mul_left (cost_at net a) bursts in
+      omega (arith, product, work.bursts)
+
+  pub size_le : (a p : ℕ) → a < length net.arcs → p < 8 → has_port rows a p ≡ true
+      → ((b q : ℕ) → rank b < rank a → b < length net.arcs → q < 8 → has_port rows b q ≡ true → delays b q ≤ v.delay b q)
+      → port_size net rows delays a p ≤ v.size a p
+  size_le a p inside prio port below =
+      least_size-le (bursts_on net delays a p (p + 1) rows) (rates_on a p (p + 1) rows) (port_delay net rows delays a p) (certified_bursts v a p (p + 1) rows) (v.delay a p) (v.size a p)
+      (bursts_le a p (p + 1) (omega arith) below)
+      (delay_le a p inside prio port below)
+      (good.size a p inside prio port)
+
+  -- by the order of ranks, where the delays at arcs below a rank are settled
+  pub delays_below : (top : ℕ) → AtPorts net rows (λ b q. rank b < top → delays b q ≡ port_delay net rows delays b q)
+      → (n a p : ℕ) → rank a < n → rank a < top → a < length net.arcs → p < 8 → has_port rows a p ≡ true → delays a p ≤ v.delay a p
+  delays_below top settled zero a p less lower inside prio port = absurd (omega arith)
+  delays_below top settled (suc n) a p less lower inside prio port =
+      rw (settled a p inside prio port lower)
+      (delay_le a p inside prio port (λ b q under there low other. delays_below top settled n b q (omega arith) (omega arith) there low other))
+
   module _ (settled : Settled net rows delays) where
-    -- by the order of ranks
-    delays_below : (n a p : ℕ) → v.rank a < n → a < length net.arcs → p < 8 → has_port rows a p ≡ true → delays a p ≤ v.delay a p
-    delays_below zero a p less inside prio port = absurd (omega arith)
-    delays_below (suc n) a p less inside prio port =
-        rw (settled a p inside prio port)
-        (delay_le a p inside prio port (λ b q lower there low other. delays_below n b q (omega arith) there low other))
-
     pub delays_le : (a p : ℕ) → a < length net.arcs → p < 8 → has_port rows a p ≡ true → delays a p ≤ v.delay a p
-    delays_le a p = delays_below (suc (v.rank a)) a p (omega arith)
+    delays_le a p = delays_below (suc (rank a)) (λ b q there low other lower. settled b q there low other) (suc (rank a)) a p (omega arith) (omega arith)
 
-    work_le : (a p : ℕ) → a < length net.arcs → p < 8 → has_port rows a p ≡ true → least_work net rows delays a p ≤ v.work a p
-    work_le a p inside prio port =
-        let work = good.work a p inside prio port in
-        let bursts = bursts_le a p 8 (omega arith) (λ b q lower. delays_le b q) in
-        let product = mul-le-mul_left (cost_at net a) bursts in
-        omega (arith, product, work.bursts)
-
-    size_le : (a p : ℕ) → a < length net.arcs → p < 8 → has_port rows a p ≡ true → port_size net rows delays a p ≤ v.size a p
-    size_le a p inside prio port =
-        least_size-le (bursts_on net delays a p (p + 1) rows) (rates_on a p (p + 1) rows) (port_delay net rows delays a p) (certified_bursts v a p (p + 1) rows) (v.delay a p) (v.size a p)
-        (bursts_le a p (p + 1) (omega arith) (λ b q lower. delays_le b q))
-        (delay_le a p inside prio port (λ b q lower. delays_le b q))
-        (good.size a p inside prio port)
-
-    hop_le : (a d e : ℕ) → d ≤ e → hop_ticks net a d ≤ hop_ticks net a e
-    hop_le a d e h = shares (slice_get net.arcs a)
-      where
-        shares : (o : Option Arc) → option_map_or (λ x. latency_at net.nodes x.from.0 + (d - 12 * x.cost) + x.delay) o 0 ≤ option_map_or (λ x. latency_at net.nodes x.from.0 + (e - 12 * x.cost) + x.delay) o 0
-        shares None = omega arith
-        shares (Some x) = omega arith
+    pub sizes_le : (a p : ℕ) → a < length net.arcs → p < 8 → has_port rows a p ≡ true → port_size net rows delays a p ≤ v.size a p
+    sizes_le a p inside prio port = size_le a p inside prio port (λ b q lower. delays_le b q)
 
     -- the ticks of a route
     route_le : (r : Row) → Contains rows r → IsSome r.curve → route_ticks net (λ a. delays a r.prio) r.arcs ≤ route_ticks net (λ a. v.delay a r.prio) r.arcs
@@ -144,7 +155,7 @@ module _ (net : Network) (rows : List Row) (delays : Delays) (v : Values) (withi
         sum_by-le-at (λ x. hop_ticks net x.0 (delays x.0 r.prio)) (λ x. hop_ticks net x.0 (v.delay x.0 r.prio)) r.arcs
         (λ i x at.
         let here : TakesAt r i x.0 = ap (option_map (λ (y : ArcId). y.0)) at in
-        hop_le x.0 (delays x.0 r.prio) (v.delay x.0 r.prio)
+        hop_le net x.0 (delays x.0 r.prio) (v.delay x.0 r.prio)
         (delays_le x.0 r.prio (within r listed i x.0 here) (prio_below r listed) (has_port-from rows r x.0 i listed express here)))
 
     -- a chain is no longer than a good rank
@@ -161,14 +172,14 @@ module _ (net : Network) (rows : List Row) (delays : Delays) (v : Values) (withi
         burst_le stream r is j inside
         (λ i a less at. delays_le a r.prio (within r listed i a at) (prio_below r listed) (has_port-from rows r a i listed is.express at))
 
-    pub values_le : (rank : ℕ → ℕ) → AreRanks net rows rank → ValuesAtMost net rows (values_over net rows rank delays) v
-    values_le rank ranks = record {
-      rank = λ a inside. chain_le (rank a) a (ranks a inside).chain;
+    pub values_le : (chain : ℕ → ℕ) → AreRanks net rows chain → ValuesAtMost net rows (values_over net rows chain delays) v
+    values_le chain ranks = record {
+      rank = λ a inside. chain_le (chain a) a (ranks a inside).chain;
       block = λ a p inside prio port. least_block-le net rows v a p (good.block a p inside prio port);
-      work = work_le;
+      work = λ a p inside prio port. work_le a p inside prio port (λ b q lower. delays_le b q);
       rate = λ a p inside prio port. let same = (good.work a p inside prio port).rate in omega (arith, same);
       delay = delays_le;
-      size = size_le;
+      size = sizes_le;
       burst = λ stream r is hop inside.
           subst (λ o. option_map_or (λ x. burst_at net delays x hop) o 0 ≤ v.burst stream hop) (sym is.row) (burst_everywhere stream r is hop inside);
       bound = λ stream r is.

@@ -6,3 +6,4 @@ pub mod AtLeast
 pub mod Settling
 pub mod Placed
 pub mod Ordered
+pub mod Completed

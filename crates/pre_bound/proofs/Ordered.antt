@@ -49,7 +49,7 @@ burst_same net delays other r (suc k) h same =
     let eq : k + 1 ≡ suc k = omega arith in
     subst (λ n. burst_at net delays r n ≡ burst_at net other r n) eq step
 
-ticks-suc : (net : Network) (delays : Delays) (r : Row) (j a : ℕ) → TakesAt r j a → ticks_before net delays r (j + 1) ≡ ticks_before net delays r j + hop_ticks net a (delays a r.prio)
+pub ticks-suc : (net : Network) (delays : Delays) (r : Row) (j a : ℕ) → TakesAt r j a → ticks_before net delays r (j + 1) ≡ ticks_before net delays r j + hop_ticks net a (delays a r.prio)
 ticks-suc net delays r j a at =
     let d : ArcId = record { 0 = a } in
     let place = TakesAt-place r j a at in
@@ -88,11 +88,12 @@ and_same : (p a b : Bool) → (p ≡ true → a ≡ b) → (p && a) ≡ (p && b)
 and_same true a b h = h refl
 and_same false a b h = refl
 
-module _ (net : Network) (rows : List Row) (rank : ℕ → ℕ) (prios : PriosBelow rows) (rise : Rise rows rank) (delays other : Delays) (a : ℕ) (same : SameBelow rank delays other a) where
-  -- the delays on the way of a stream to the arc are the same
-  way_same : (r : Row) → Contains rows r → IsSome r.curve → takes a r ≡ true → (i c : ℕ) → i < hop_of a r → TakesAt r i c → delays c r.prio ≡ other c r.prio
-  way_same r listed express on i c less at = same c r.prio (rank_rises rows rank rise r listed express i (hop_of a r) c a less at (TakesAt-hop_of r a on)) (prios r listed)
+-- the delays on the way of each stream to the arc are the same
+abbrev pub SameOnTheWay : List Row → Delays → Delays → ℕ → Type 0
+SameOnTheWay rows delays other a =
+    (r : Row) → Contains rows r → IsSome r.curve → takes a r ≡ true → (i c : ℕ) → i < hop_of a r → TakesAt r i c → delays c r.prio ≡ other c r.prio
 
+module _ (net : Network) (rows : List Row) (delays other : Delays) (a : ℕ) (way_same : SameOnTheWay rows delays other a) where
   hop_within : (r : Row) → takes a r ≡ true → hop_of a r ≤ length r.arcs
   hop_within r on = let place = TakesAt-place r (hop_of a r) a (TakesAt-hop_of r a on) in omega (arith, place.0)
 
@@ -104,7 +105,7 @@ module _ (net : Network) (rows : List Row) (rank : ℕ → ℕ) (prios : PriosBe
       sum_same (burst_on net delays a) (burst_on net other a) (is_on a low high) rows
       (λ r listed e. let on = OnArc-from a low high r e in burst_on-same r listed on.express on.takes)
 
-  delay_same : (p : ℕ) → port_delay net rows delays a p ≡ port_delay net rows other a p
+  pub delay_same : (p : ℕ) → port_delay net rows delays a p ≡ port_delay net rows other a p
   delay_same p = ap (λ n. least_delay (least_block net rows a p) (cost_at net a * n) (rate_above rows a p) (cost_at net a)) (bursts_on-same p 8)
 
   size_same : (p : ℕ) → port_size net rows delays a p ≡ port_size net rows other a p
@@ -132,11 +133,16 @@ module _ (net : Network) (rows : List Row) (rank : ℕ → ℕ) (prios : PriosBe
       ap (λ row. list_any (nat_lt limit) (row.block ∷ row.work ∷ row.delay ∷ row.size ∷ []) || list_any (stream_passes net delays a p row.delay) rows) (port_same p)
       ∙ ap (λ b. port_passes net rows other a p || b) (any_same (stream_passes net delays a p (port_delay net rows other a p)) (stream_passes net other a p (port_delay net rows other a p)) rows (λ r listed. stream_same p (port_delay net rows other a p) r listed))
 
-  pub numbers_same : (p : ℕ) → (least_port net rows delays a p ≡ least_port net rows other a p) × (passes net rows delays a p ≡ passes net rows other a p)
-  numbers_same p = (port_same p, passes_same p)
+  pub alike : (p : ℕ) → (least_port net rows delays a p ≡ least_port net rows other a p) × (passes net rows delays a p ≡ passes net rows other a p)
+  alike p = (port_same p, passes_same p)
+
+pub numbers_same : (net : Network) (rows : List Row) (rank : ℕ → ℕ) → PriosBelow rows → Rise rows rank → (delays other : Delays) (a : ℕ) → SameBelow rank delays other a
+    → (p : ℕ) → (least_port net rows delays a p ≡ least_port net rows other a p) × (passes net rows delays a p ≡ passes net rows other a p)
+numbers_same net rows rank prios rise delays other a same =
+    alike net rows delays other a (λ r listed express on i c less at. same c r.prio (rank_rises rows rank rise r listed express i (hop_of a r) c a less at (TakesAt-hop_of r a on)) (prios r listed))
 
 -- an arc is taken at one hop alone
-hop_of-unique : (rows : List Row) (rank : ℕ → ℕ) → Rise rows rank → (r : Row) → Contains rows r → IsSome r.curve → (j a : ℕ) → TakesAt r j a → hop_of a r ≡ j
+pub hop_of-unique : (rows : List Row) (rank : ℕ → ℕ) → Rise rows rank → (r : Row) → Contains rows r → IsSome r.curve → (j a : ℕ) → TakesAt r j a → hop_of a r ≡ j
 hop_of-unique rows rank rise r listed express j a at =
     let first = TakesAt-hop_of r a (takes-from r j a at) in
     elim (cases_order (hop_of a r) j) [

@@ -117,7 +117,7 @@ good_from_settled net streams rank delays fits ranks load settled room =
 pub least_from_settled : (net : Network) (streams : Streams) (rank : ℕ → ℕ) (delays : Delays) (v : Values) → Fits net streams → PriosBelow streams.rows → AreRanks net streams.rows rank → Settled net streams.rows delays
     → AreGood net streams.rows v → ValuesAtMost net streams.rows (values_over net streams.rows rank delays) v
 least_from_settled net streams rank delays v fits prios ranks settled good =
-    values_le net streams.rows delays v (ArcsWithin-fits net streams fits) prios good settled rank ranks
+    values_le net streams.rows delays v (ArcsWithin-fits net streams fits) prios good v.rank good.rank_order settled rank ranks
 
 pub certificate_from_settled : (net : Network) (streams : Streams) (rank : ℕ → ℕ) (delays : Delays) (c : Certificate) → Fits net streams → PriosBelow streams.rows → AreRanks net streams.rows rank
     → ((arc : ℕ) → arc < length net.arcs → Load net streams.rows arc) → Settled net streams.rows delays → HaveRoom net streams.rows delays

@@ -13,3 +13,4 @@ pub mod Settled
 pub mod Passing
 pub mod Order
 pub mod Promises
+pub mod Complete

@@ -44,3 +44,7 @@ pub record GoodCertificate (net : Network) (streams : Streams) (c : Certificate)
   pub values : Values
   pub says : Says net streams.rows c values
   pub good : AreGood net streams.rows values
+
+-- the streams have a good certificate
+abbrev pub HasGood : Network → Streams → Type 0
+HasGood net streams = (c : Certificate) × GoodCertificate net streams c

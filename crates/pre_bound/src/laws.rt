@@ -1,5 +1,6 @@
 ghost use Rattle.std.specs.Prelude.{ℕ, ◌*◌, ◌<◌};
 ghost use Rattle.pre_bound.specs.Solutions.{CoversDelay, CoversGrowth, CoversQueue, IsLeast, least_delay, least_growth, least_size};
+ghost use Rattle.pre_bound.specs.Complete.{GoodPassNowhere, GoodHaveRoom, SettledAlike};
 ghost use Rattle.pre_bound.specs.Promises.{BoundsWithin, BurstsWithin, FollowsWithin, GoodAreAtLeast, RanksRise, SameNumbers, SettledAreGood, SettledAreLeast, SettledIsLeast};
 
 /// What `hop_delay`, `grown` and `queue_size` give are the least numbers that cover.
@@ -34,4 +35,12 @@ pub fn order_law()
 pub fn limit_law()
     ensures bursts { BurstsWithin }
     ensures bounds { BoundsWithin }
+{}
+
+/// Where there is a good certificate, no port passes the limit over delays that are settled before it, and each ring has
+/// room for the least size of its port. Settled delays give the same numbers whatever settles them.
+pub fn completeness_law()
+    ensures ports { GoodPassNowhere }
+    ensures rings { GoodHaveRoom }
+    ensures alike { SettledAlike }
 {}

@@ -7,7 +7,7 @@ mod rows;
 mod solutions;
 
 pub use certificate::Certificate;
-pub use laws::{good_law, least_solutions, limit_law, order_law, settled_law};
+pub use laws::{completeness_law, good_law, least_solutions, limit_law, order_law, settled_law};
 pub use rows::{HopRow, PortRow};
 pub use solutions::{grown, hop_delay, queue_size};
 

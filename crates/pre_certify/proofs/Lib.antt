@@ -6,3 +6,4 @@ pub mod Peeling
 pub mod Walking
 pub mod Listing
 pub mod Certified
+pub mod Refusing

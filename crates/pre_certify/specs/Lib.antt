@@ -8,3 +8,4 @@ pub mod Paths
 pub mod Written
 pub mod Ranked
 pub mod Text
+pub mod Refusals

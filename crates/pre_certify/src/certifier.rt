@@ -1,11 +1,11 @@
-ghost use Rattle.std.specs.Prelude.{◌≡◌, ℕ, ◌+◌, ◌<◌, ◌≤◌, length, IfOk, IfErr, map, unwrap_or};
+ghost use Rattle.std.specs.Prelude.{◌≡◌, ◌⊎◌, ℕ, ◌+◌, ◌<◌, ◌≤◌, length, IfOk, IfErr, map, unwrap_or};
 ghost use Rattle.pre_streams.specs.Fits.{Fits};
 ghost use Rattle.pre_bound.specs.Limits.{limit};
 ghost use Rattle.pre_bound.specs.Along.{burst_at};
 ghost use Rattle.pre_bound.specs.Chains.{AreRanks};
 ghost use Rattle.pre_bound.specs.Good.{AtStreams};
 ghost use Rattle.pre_bound.specs.Settled.{PriosBelow, values_over};
-ghost use Rattle.pre_bound.specs.Listed.{Says};
+ghost use Rattle.pre_bound.specs.Listed.{Says, HasGood};
 ghost use Rattle.pre_bound.specs.Least.{Least};
 ghost use Rattle.pre_bound.specs.Passing.{ticks_before};
 ghost use Rattle.pre_certify.specs.Loads.{NoOverload};
@@ -14,9 +14,12 @@ ghost use Rattle.pre_certify.specs.Turns.{IsTable, ranks_in};
 ghost use Rattle.pre_certify.specs.Causes.{Cause};
 ghost use Rattle.pre_certify.specs.Peelings.{FollowedWithin};
 ghost use Rattle.pre_certify.specs.Ranked.{HaveRanks};
+ghost use Rattle.pre_certify.specs.Refusals.{NoneRefuses, IsAlone};
+ghost use Rattle.pre_certify.specs.declared.unfit.Unfit.TheVariants.{Memory};
 
 use crate::Unfit;
 use crate::cycles::cycle;
+use crate::laws::refusal_law;
 use crate::loads::first_overload;
 use crate::ranks::{Peeling, peeled};
 use crate::rings::rings_fit;
@@ -138,6 +141,24 @@ fn certified(
     }
 }
 
+/// The least certificate, or the first refusal that has a cause.
+fn certificate_of(alloc: Global, net: &Network, streams: &Streams) -> Result<Certificate, Unfit>
+    requires fits { Fits net.now streams.now }
+    requires prios { PriosBelow streams.now.rows }
+    ensures least { IfOk result (Least net.now streams.now) }
+    ensures cause { IfErr result (Cause net.now streams.now.rows) }
+{
+    order_law();
+    let rows = streams.rows.as_slice();
+    if let Some(arc) = first_overload(net, rows) {
+        return Err(Unfit::Overload { arc });
+    }
+    match ranks_of(alloc, net, rows) {
+        Ok(ranks) => certified(alloc, net, streams, ranks.as_slice()),
+        Err(unfit) => Err(unfit),
+    }
+}
+
 /// The least certificate of the streams, each number of which is at most that of every good one; or why there is none:
 ///
 /// - `Overload`: the least arc whose streams want all of its time;
@@ -146,20 +167,17 @@ fn certified(
 /// - `Ring`: the first port, by arc and priority, whose ring has too little room, and the room that it needs;
 /// - `Memory`.
 ///
-/// Each comes only where none of those before it does.
+/// Each comes only where none of those before it does. No refusal but `Memory` comes where there is a good certificate,
+/// and where one has a cause, no other answer comes, but `Memory` and the choice of a cycle.
 pub fn certify(alloc: Global, net: &Network, streams: &Streams) -> Result<Certificate, Unfit>
     requires { Fits net.now streams.now }
     ensures least { IfOk result (Least net.now streams.now) }
     ensures cause { IfErr result (Cause net.now streams.now.rows) }
+    ensures complete { HasGood net.now streams.now → IfErr result (λ e. e ≡ Memory) }
+    ensures none { IfOk result (λ c. NoneRefuses net.now streams.now.rows) }
+    ensures alone { IfErr result (λ e. (e ≡ Memory) ⊎ IsAlone net.now streams.now e) }
 {
-    order_law();
-    let rows = streams.rows.as_slice();
-    prios_below(rows);
-    if let Some(arc) = first_overload(net, rows) {
-        return Err(Unfit::Overload { arc });
-    }
-    match ranks_of(alloc, net, rows) {
-        Ok(ranks) => certified(alloc, net, streams, ranks.as_slice()),
-        Err(unfit) => Err(unfit),
-    }
+    refusal_law();
+    prios_below(streams.rows.as_slice());
+    certificate_of(alloc, net, streams)
 }

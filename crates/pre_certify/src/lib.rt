@@ -3,6 +3,7 @@
 
 mod certifier;
 mod cycles;
+mod laws;
 mod loads;
 mod ports;
 mod ranks;
@@ -13,6 +14,7 @@ mod text;
 mod unfit;
 
 pub use certifier::certify;
+pub use laws::refusal_law;
 pub use text::put_certificate;
 pub use unfit::Unfit;
 

@@ -1,5 +1,5 @@
 -- What the parts of the command that certifies answer, as answers of the whole.
-use Rattle.std.proofs.Common.{◌≡◌, inl, inr, ℕ, ◌<◌, ◌≤◌, List, length, codes, [], Option, None, Some, Ok, Err, Bool, true, false, refl, sym, ◌∙◌, ap, subst, arith, if◌then◌else◌}
+use Rattle.std.proofs.Common.{◌≡◌, ◌≢◌, ◌⊎◌, inl, inr, ℕ, ◌<◌, ◌≤◌, List, length, codes, [], Option, None, Some, Ok, Err, Bool, true, false, refl, sym, ◌∙◌, ap, subst, arith, if◌then◌else◌}
 use Rattle.std.proofs.lemmas.List.{append-nil}
 use Rattle.std.specs.Str.{bytes_eq}
 use Rattle.std.specs.FinMap.{get}
@@ -22,6 +22,7 @@ use Rattle.pre_bound.specs.Least.{Least}
 use Rattle.pre_certify.specs.declared.unfit.Unfit.{Unfit}
 use Rattle.pre_certify.specs.declared.unfit.Unfit.TheVariants as unfit
 use Rattle.pre_certify.specs.Causes.{Cause}
+use Rattle.pre_certify.specs.Refusals.{NoneRefuses, IsAlone}
 use Rattle.pre_certify.specs.Text.{certificate_text}
 use Rattle.pre_cli.specs.declared.statuses.FileWord.{FileWord}
 use Rattle.pre_cli.specs.declared.statuses.FileWord.TheVariants as file
@@ -30,7 +31,7 @@ use Rattle.pre_cli.specs.declared.statuses.Status.TheVariants as status
 use Rattle.pre_cli.specs.Scripts.{max_file}
 use Rattle.pre_cli.specs.Answers.{Outside}
 use Rattle.pre_cli.specs.Listed.{IsFlushed}
-use Rattle.pre_cli.specs.Certifying.{text_named, IsTextIn, OfFiles, IsGone, IsFileIn, IsNoFile, IsLongFile, topo_status, stream_status, IsLong, IsNetIn, NetRefused, AreStreamsIn, StreamsRefused, InPlace, pair_network, pair_streams, unfit_status, CertifiedCause, TakesFlushed, CertifiedLeaves, AreBothIn, RefusedIn, GoneIn, CertifyingCause, CertifyingLeaves}
+use Rattle.pre_cli.specs.Certifying.{text_named, IsTextIn, OfFiles, IsGone, IsFileIn, IsNoFile, IsLongFile, topo_status, stream_status, IsLong, IsNetIn, NetRefused, AreStreamsIn, StreamsRefused, InPlace, pair_network, pair_streams, unfit_status, UnfitCause, CertifiedCause, TakesFlushed, CertifiedLeaves, AreBothIn, RefusedIn, GoneIn, CertifyingCause, CertifyingLeaves}
 
 -- ---- told values
 
@@ -151,12 +152,16 @@ streams_refused stream.Memory word text net before now a b due is = tt
 
 -- ---- the certificate
 
-pub unfit_cause : (u : Unfit) (net : Network) (streams : Streams) (before now : ℕ) → Cause net streams.rows u → CertifiedCause (unfit_status u) net streams before now
-unfit_cause (unfit.Overload arc) net streams before now cause = cause
-unfit_cause (unfit.Cycle arcs) net streams before now cause = cause
-unfit_cause (unfit.Large arc prio) net streams before now cause = cause
-unfit_cause (unfit.Ring arc prio need) net streams before now cause = cause
-unfit_cause unfit.Memory net streams before now cause = tt
+alone_at : (u : Unfit) (net : Network) (streams : Streams) → u ≢ unfit.Memory → Cause net streams.rows u → (u ≡ unfit.Memory) ⊎ IsAlone net streams u → UnfitCause u net streams
+alone_at u net streams refusal cause (inl memory) = absurd (refusal memory)
+alone_at u net streams refusal cause (inr alone) = record { refusal = refusal; here = cause; alone = alone }
+
+pub unfit_cause : (u : Unfit) (net : Network) (streams : Streams) (before now : ℕ) → Cause net streams.rows u → (u ≡ unfit.Memory) ⊎ IsAlone net streams u → CertifiedCause (unfit_status u) net streams before now
+unfit_cause (unfit.Overload arc) net streams before now cause alone = alone_at (unfit.Overload arc) net streams (λ e. cc) cause alone
+unfit_cause (unfit.Cycle arcs) net streams before now cause alone = alone_at (unfit.Cycle arcs) net streams (λ e. cc) cause alone
+unfit_cause (unfit.Large arc prio) net streams before now cause alone = alone_at (unfit.Large arc prio) net streams (λ e. cc) cause alone
+unfit_cause (unfit.Ring arc prio need) net streams before now cause alone = alone_at (unfit.Ring arc prio need) net streams (λ e. cc) cause alone
+unfit_cause unfit.Memory net streams before now cause alone = tt
 
 pub unfit_leaves : (u : Unfit) (net : Network) (streams : Streams) (a : Option Taken) → CertifiedLeaves (unfit_status u) net streams a a
 unfit_leaves (unfit.Overload arc) net streams a = refl
@@ -178,16 +183,16 @@ flushed_leaves (status.Unfit u) net streams k a b c least took ends = absurd end
 flushed_leaves status.Memory net streams k a b c least took ends = absurd ends
 flushed_leaves status.Words net streams k a b c least took ends = absurd ends
 
-pub flushed_cause : (s : Status) (net : Network) (streams : Streams) (k : Certificate) (before between now : ℕ) (a b : Option Taken) → Least net streams k → before ≤ between → IsFlushed s a b → (s ≡ status.WriteFault → Rose between now)
+pub flushed_cause : (s : Status) (net : Network) (streams : Streams) (k : Certificate) (before between now : ℕ) (a b : Option Taken) → Least net streams k → NoneRefuses net streams.rows → before ≤ between → IsFlushed s a b → (s ≡ status.WriteFault → Rose between now)
     → CertifiedCause s net streams before now
-flushed_cause status.Done net streams k before between now a b least later ends rose = (k, least)
-flushed_cause status.WriteFault net streams k before between now a b least later ends rose = (omega (arith, later, rose refl), (k, least))
-flushed_cause status.ReadFault net streams k before between now a b least later ends rose = absurd ends
-flushed_cause (status.Form kind line rule) net streams k before between now a b least later ends rose = absurd ends
-flushed_cause (status.Rules kind row rule) net streams k before between now a b least later ends rose = absurd ends
-flushed_cause (status.Unfit u) net streams k before between now a b least later ends rose = absurd ends
-flushed_cause status.Memory net streams k before between now a b least later ends rose = absurd ends
-flushed_cause status.Words net streams k before between now a b least later ends rose = absurd ends
+flushed_cause status.Done net streams k before between now a b least none later ends rose = record { certificate = k; least = least; none = none }
+flushed_cause status.WriteFault net streams k before between now a b least none later ends rose = (omega (arith, later, rose refl), record { certificate = k; least = least; none = none })
+flushed_cause status.ReadFault net streams k before between now a b least none later ends rose = absurd ends
+flushed_cause (status.Form kind line rule) net streams k before between now a b least none later ends rose = absurd ends
+flushed_cause (status.Rules kind row rule) net streams k before between now a b least none later ends rose = absurd ends
+flushed_cause (status.Unfit u) net streams k before between now a b least none later ends rose = absurd ends
+flushed_cause status.Memory net streams k before between now a b least none later ends rose = absurd ends
+flushed_cause status.Words net streams k before between now a b least none later ends rose = absurd ends
 
 -- ---- the command
 

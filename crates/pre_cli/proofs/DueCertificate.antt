@@ -16,7 +16,7 @@ is_ok : {A B : Type 0} → Result A B → Type 0
 is_ok (Ok x) = Unit {0}
 is_ok (Err e) = ⊥
 
-ok_err : {A B : Type 0} (r : Result A B) (x : A) (e : B) → r ≡ Ok x → r ≡ Err e → ⊥
+pub ok_err : {A B : Type 0} (r : Result A B) (x : A) (e : B) → r ≡ Ok x → r ≡ Err e → ⊥
 unfolding is_ok
 ok_err r x e p q = subst is_ok (sym p ∙ q) tt
 
@@ -24,14 +24,14 @@ err_or : {A B : Type 0} → Result A B → B → B
 err_or (Ok x) d = d
 err_or (Err e) d = e
 
-err_same : {A B : Type 0} (r : Result A B) (e f : B) → r ≡ Err e → r ≡ Err f → e ≡ f
+pub err_same : {A B : Type 0} (r : Result A B) (e f : B) → r ≡ Err e → r ≡ Err f → e ≡ f
 unfolding err_or
 err_same r e f p q = ap (λ x. err_or x e) (sym p ∙ q)
 
-same_text : (built_in word x y : List ℕ) (files : Files) → text_named built_in word files ≡ Some x → text_named built_in word files ≡ Some y → x ≡ y
+pub same_text : (built_in word x y : List ℕ) (files : Files) → text_named built_in word files ≡ Some x → text_named built_in word files ≡ Some y → x ≡ y
 same_text built_in word x y files p q = some_same x y (sym p ∙ q)
 
-too_long : (x y : List ℕ) → x ≡ y → max_file < length x → length y ≤ max_file → ⊥
+pub too_long : (x y : List ℕ) → x ≡ y → max_file < length x → length y ≤ max_file → ⊥
 too_long x y same long short = omega (arith, long, subst (λ (l : List ℕ). length l ≤ max_file) (sym same) short)
 
 -- a text that is refused is refused so alone
@@ -44,13 +44,13 @@ net_one word s t files (inr (x, p, (fault, read, is))) (inr (y, q, (other, read_
     is ∙ ap topo_status (err_same (network_of x) fault other read (ap network_of same ∙ read_too)) ∙ sym is_too
 
 -- and is no network
-net_not : (word : List ℕ) (s : Status) (net : Network) (files : Files) → NetRefused word s files → IsNetIn word net files → ⊥
+pub net_not : (word : List ℕ) (s : Status) (net : Network) (files : Files) → NetRefused word s files → IsNetIn word net files → ⊥
 net_not word s net files (inl p) (y, q, read) = too_long p.0 y (same_text pair_network word p.0 y files p.1 q.is) p.2 q.short
 net_not word s net files (inr (x, p, (fault, read, is))) (y, q, read_too) =
     let same : x ≡ y = same_text pair_network word x y files p.is q.is in
     ok_err (network_of x) (parts_of net) fault (ap network_of same ∙ read_too) read
 
-net_there : (word : List ℕ) (s : Status) (files : Files) → NetRefused word s files → text_named pair_network word files ≡ None → ⊥
+pub net_there : (word : List ℕ) (s : Status) (files : Files) → NetRefused word s files → text_named pair_network word files ≡ None → ⊥
 net_there word s files (inl p) none = none-some p.0 (sym none ∙ p.1)
 net_there word s files (inr (x, p, rest)) none = none-some x (sym none ∙ p.is)
 
@@ -83,7 +83,7 @@ refused_network status.Words t net_word streams_word o told tells p cause = absu
 
 -- ---- a network's text that isn't there
 
-none_net : (word : List ℕ) (net : Network) (files : Files) → text_named pair_network word files ≡ None → IsNetIn word net files → ⊥
+pub none_net : (word : List ℕ) (net : Network) (files : Files) → text_named pair_network word files ≡ None → IsNetIn word net files → ⊥
 none_net word net files none (x, p, read) = none-some x (sym none ∙ p.is)
 
 none_refused : (net_word streams_word : List ℕ) (s : Status) (files : Files) → text_named pair_network net_word files ≡ None → RefusedIn net_word streams_word s files → ⊥

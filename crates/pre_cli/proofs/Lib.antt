@@ -10,3 +10,5 @@ pub mod ListLemmas
 pub mod DueListing
 mod CertifyLemmas
 pub mod DueCertificate
+pub mod OneReading
+pub mod DueStreams

@@ -1,5 +1,5 @@
 -- What the command that certifies reads, answers and leaves.
-use Rattle.std.specs.Prelude.{◌≡◌, ◌⊎◌, ℕ, ◌<◌, ◌≤◌, List, ◌++◌, length, map, codes, Option, Some, None, Ok, Err, true, if◌then◌else◌}
+use Rattle.std.specs.Prelude.{◌≡◌, ◌≢◌, ◌⊎◌, ℕ, ◌<◌, ◌≤◌, List, ◌++◌, length, map, codes, Option, Some, None, Ok, Err, true, if◌then◌else◌}
 use Rattle.std.specs.Str.{bytes_eq}
 use Rattle.std.specs.FinMap.{get}
 use Rattle.pre_base.specs.Faults.{Rose}
@@ -12,7 +12,6 @@ use Rattle.pre_topo.specs.declared.network.Network.{Network}
 use Rattle.pre_topo.specs.declared.faults.TopoFault.{TopoFault}
 use Rattle.pre_topo.specs.declared.faults.TopoFault.TheVariants as topo
 use Rattle.pre_topo.specs.NetworkOf.{network_of, parts_of}
-use Rattle.pre_streams.specs.declared.rows.Row.{Row}
 use Rattle.pre_streams.specs.declared.rows.Streams.{Streams}
 use Rattle.pre_streams.specs.declared.faults.StreamFault.{StreamFault}
 use Rattle.pre_streams.specs.declared.faults.StreamFault.TheVariants as stream
@@ -23,6 +22,7 @@ use Rattle.pre_bound.specs.Least.{Least}
 use Rattle.pre_certify.specs.declared.unfit.Unfit.{Unfit}
 use Rattle.pre_certify.specs.declared.unfit.Unfit.TheVariants as unfit
 use Rattle.pre_certify.specs.Causes.{Cause}
+use Rattle.pre_certify.specs.Refusals.{NoneRefuses, IsAlone}
 use Rattle.pre_certify.specs.Text.{certificate_text}
 use Rattle.pre_cli.specs.declared.statuses.FileWord.{FileWord}
 use Rattle.pre_cli.specs.declared.statuses.FileWord.TheVariants as file
@@ -129,8 +129,11 @@ InPlace (status.Unfit cause) gone refused before now old new = ⊥
 
 -- ---- the certificate of a network and streams
 
-abbrev pub HasLeast : Network → Streams → Type 0
-HasLeast net streams = (c : Certificate) × Least net streams c
+-- there is a least certificate, and no refusal has a cause
+pub record HasLeast (net : Network) (streams : Streams) : Type 0 where
+  pub certificate : Certificate
+  pub least : Least net streams certificate
+  pub none : NoneRefuses net streams.rows
 
 -- want of memory is no cause of its own
 abbrev pub unfit_status : Unfit → Status
@@ -140,17 +143,16 @@ unfit_status (unfit.Large arc prio) = status.Unfit (unfit.Large arc prio)
 unfit_status (unfit.Ring arc prio need) = status.Unfit (unfit.Ring arc prio need)
 unfit_status unfit.Memory = status.Memory
 
-abbrev pub UnfitCause : Unfit → Network → List Row → Type 0
-UnfitCause (unfit.Overload arc) net rows = Cause net rows (unfit.Overload arc)
-UnfitCause (unfit.Cycle arcs) net rows = Cause net rows (unfit.Cycle arcs)
-UnfitCause (unfit.Large arc prio) net rows = Cause net rows (unfit.Large arc prio)
-UnfitCause (unfit.Ring arc prio need) net rows = Cause net rows (unfit.Ring arc prio need)
-UnfitCause unfit.Memory net rows = ⊥
+-- the refusal has a cause, and no other has, and there is no good certificate; want of memory is no cause of its own
+pub record UnfitCause (cause : Unfit) (net : Network) (streams : Streams) : Type 0 where
+  pub refusal : cause ≢ unfit.Memory
+  pub here : Cause net streams.rows cause
+  pub alone : IsAlone net streams cause
 
 abbrev pub CertifiedCause : Status → Network → Streams → ℕ → ℕ → Type 0
 CertifiedCause status.Done net streams before now = HasLeast net streams
 CertifiedCause status.WriteFault net streams before now = Rose before now × HasLeast net streams
-CertifiedCause (status.Unfit cause) net streams before now = UnfitCause cause net streams.rows
+CertifiedCause (status.Unfit cause) net streams before now = UnfitCause cause net streams
 CertifiedCause status.Memory net streams before now = Unit {0}
 CertifiedCause status.Words net streams before now = ⊥
 CertifiedCause status.ReadFault net streams before now = ⊥
@@ -183,7 +185,7 @@ abbrev pub RefusedIn : List ℕ → List ℕ → Status → Files → Type 0
 RefusedIn net_word streams_word s files =
     NetRefused net_word s files
     ⊎ ((net : Network) × IsNetIn net_word net files × StreamsRefused streams_word net s files)
-    ⊎ ((net : Network) × (streams : Streams) × AreBothIn net_word streams_word net streams files × ((cause : Unfit) × UnfitCause cause net streams.rows × (s ≡ status.Unfit cause)))
+    ⊎ ((net : Network) × (streams : Streams) × AreBothIn net_word streams_word net streams files × ((cause : Unfit) × UnfitCause cause net streams × (s ≡ status.Unfit cause)))
 
 -- the network's text isn't there; or it's read, and the streams' text isn't there
 abbrev pub GoneIn : List ℕ → List ℕ → Option Told → Type 0

@@ -12,3 +12,4 @@ pub mod Listed
 pub mod Certifying
 pub mod Commands
 pub mod DueListings
+pub mod DueCertificates

@@ -45,6 +45,22 @@ end
 const FULL: &str =
     "[[stream]]\nname = \"x\"\nvid = 1\nprio = 6\nroute = [\"a\", \"b\"]\nmax = 64\nburst = 84\nrate = 600000\n[[stream]]\nname = \"z\"\nvid = 2\nprio = 6\nroute = [\"a\", \"b\"]\nmax = 64\nburst = 84\nrate = 400000\n";
 
+/// Three bridges in a ring, with a station at each.
+const RING: &str =
+    "express_from = 4\n[[node]]\nname = \"p\"\nkind = \"bridge\"\n[[node]]\nname = \"q\"\nkind = \"bridge\"\n[[node]]\nname = \"r\"\nkind = \"bridge\"\n[[node]]\nname = \"s\"\nkind = \"station\"\n[[node]]\nname = \"t\"\nkind = \"station\"\n[[node]]\nname = \"u\"\nkind = \"station\"\n[[link]]\nends = [\"p\", \"q\"]\ncost = 1\nmode = \"on\"\nrings = [64, 64, 64, 64, 64, 64, 64, 64]\n[[link]]\nends = [\"q\", \"r\"]\ncost = 1\nmode = \"on\"\nrings = [64, 64, 64, 64, 64, 64, 64, 64]\n[[link]]\nends = [\"r\", \"p\"]\ncost = 1\nmode = \"on\"\nrings = [64, 64, 64, 64, 64, 64, 64, 64]\n[[link]]\nends = [\"s\", \"p\"]\ncost = 1\nmode = \"on\"\nrings = [64, 64, 64, 64, 64, 64, 64, 64]\n[[link]]\nends = [\"t\", \"q\"]\ncost = 1\nmode = \"on\"\nrings = [64, 64, 64, 64, 64, 64, 64, 64]\n[[link]]\nends = [\"u\", \"r\"]\ncost = 1\nmode = \"on\"\nrings = [64, 64, 64, 64, 64, 64, 64, 64]\n";
+
+/// Streams that go round, each by the arcs between three bridges and those to and from stations.
+const ROUND: &str =
+    "[[stream]]\nname = \"c1\"\nvid = 1\nprio = 6\nroute = [\"s\", \"p\", \"q\", \"r\", \"u\"]\nmax = 64\nburst = 84\nrate = 1000\n[[stream]]\nname = \"c2\"\nvid = 2\nprio = 6\nroute = [\"t\", \"q\", \"r\", \"p\", \"s\"]\nmax = 64\nburst = 84\nrate = 1000\n[[stream]]\nname = \"c3\"\nvid = 3\nprio = 6\nroute = [\"u\", \"r\", \"p\", \"q\", \"t\"]\nmax = 64\nburst = 84\nrate = 1000\n";
+
+/// Two stations and a link on which an octet takes 1000 ticks.
+const SLOW: &str =
+    "express_from = 4\n[[node]]\nname = \"a\"\nkind = \"station\"\n[[node]]\nname = \"b\"\nkind = \"station\"\n[[link]]\nends = [\"a\", \"b\"]\ncost = 1000\nmode = \"on\"\nrings = [64, 64, 64, 64, 64, 64, 64, 64]\n";
+
+/// A stream of the greatest burst.
+const GREATEST: &str =
+    "[[stream]]\nname = \"x\"\nvid = 10\nprio = 6\nroute = [\"a\", \"b\"]\nmax = 64\nburst = 1000000000\nrate = 1\n";
+
 /// Certifies the streams of two files, `net` and `streams`.
 fn certified<S: Sink>(
     alloc: Global,
@@ -104,6 +120,8 @@ fn refusals(rt: HostRuntime) -> Result<(), Fail> {
             5,
             "rules net node 0 2",
         ),
+        (RING, ROUND, "certify net streams", 6, "unfit cycle 0 2 4"),
+        (SLOW, GREATEST, "certify net streams", 6, "unfit large 0 6"),
         (DIRECT, "[", "certify net streams", 4, "form streams 0 1"),
         (DIRECT, TWO_ROWS, "certify none streams", 2, "read fault"),
     ] {
