@@ -1,7 +1,7 @@
 -- The arrivals of an arc's moment carry a legal history on.
-use Rattle.std.proofs.Common.{ℕ, ◌≡◌, ◌≢◌, ◌==◌, ◌+◌, ◌<◌, ◌≤◌, Bool, true, false, List, [], ◌∷◌, ◌++◌, length, drop, refl, sym, ◌∙◌, ap, inl, inr, arith, subst, Some, None, length-append}
-use Rattle.std.specs.Prelude.{slice_get, slice_index_or, if◌then◌else◌, option_and_then}
-use Rattle.std.specs.List.{AllByRecursion as Every}
+use Rattle.std.proofs.Common.{ℕ, ◌≡◌, ◌≢◌, ◌==◌, ◌+◌, ◌<◌, ◌≤◌, Bool, true, false, List, [], ◌∷◌, ◌++◌, length, drop, refl, sym, ◌∙◌, ap, inl, inr, arith, subst, Option, Some, None, filter_map, map, length-append}
+use Rattle.std.specs.Prelude.{slice_get, slice_index_or, if◌then◌else◌, option_map, option_and_then}
+use Rattle.std.specs.List.{cons_option, AllByRecursion as Every}
 use Rattle.std.proofs.lemmas.Bool.{cases_lt}
 use Rattle.std.proofs.lemmas.List.{append-nil}
 use Rattle.std.proofs.lemmas.List.Elements.{filter_map-append}
@@ -13,7 +13,8 @@ use Rattle.pre_lldp.specs.LldpLayout.{is_lldp_frame}
 use Rattle.pre_mpacket.specs.Arrivals.{Given, Gives}
 use Rattle.pre_trace.specs.declared.events.What.TheVariants as what
 use Rattle.pre_trace.specs.declared.events.Outcome.TheVariants as outcome
-use Rattle.pre_trace.specs.Scenario.{Scenario, arc, no_arc, FrameOf}
+use Rattle.pre_trace.specs.Scenario.{Scenario, arc, no_arc, latency, FrameOf}
+use Rattle.pre_base.specs.declared.numbers.ArcId.{ArcId}
 use Rattle.pre_trace.specs.Moments.{Phase}
 use Rattle.pre_trace.specs.History.{PlainEvent, History, Begin, Ended, Arrive}
 use Rattle.pre_trace.specs.Selected.{begin_on, ended_on, arrive_on, entry_on, frame_in}
@@ -31,12 +32,15 @@ use Rattle.pre_sim.specs.declared.lanes.Lane.{Lane}
 use Rattle.pre_sim.specs.Spelled.{octets_of}
 use Rattle.pre_sim.specs.Reach.{CanRun}
 use Rattle.pre_sim.specs.Parts.{LegalAt, LanePart, LaneFront}
-use Rattle.pre_sim.specs.Stands.{StillWaiting, IsFlying, AreFlying, IsLane, LaneStands}
+use Rattle.pre_sim.specs.Stands.{StillWaiting, IsFrameOf, IsFlying, AreFlying, IsLane, Onward, onward, passes, AreInside, LaneStands}
+use Rattle.pre_sim.specs.Arriving.{arrives_at, delivered_at, stay, ArrivalFront, GivenFront}
+use Rattle.pre_sim.specs.declared.lanes.Passing.{Passing}
 use Rattle.pre_sim.proofs.Moments.{one_more, whole_front, arrivals_place, arrivals_early, number_before}
 use Rattle.pre_sim.proofs.Arrived.{none_flies, first_flies, arrived_lane}
 use Rattle.pre_sim.proofs.Arriving.{all_arrived, none_arrives, one_arrives}
 use Rattle.pre_sim.proofs.Ending.{octets_are}
-use Rattle.pre_sim.proofs.Direct.{is_direct, no_next, user_frame}
+use Rattle.pre_sim.proofs.Direct.{is_direct, user_frame}
+use Rattle.pre_sim.proofs.Inside.{arrived_inside}
 use Rattle.pre_sim.proofs.Lists.{read_at}
 use Rattle.pre_sim.proofs.EndParts.{moved, still_same, stays_standing}
 
@@ -52,7 +56,7 @@ is_eq : (m n : ℕ) → m ≡ n → (m == n) ≡ true
 is_eq m n e = grind (arith, nat_tests)
 
 module _ (laws : ArrivalLaws) (net : Network) (t a : ℕ) (a_lt : a < length net.arcs) (lane : Lane) where
-  module _ (w : Scenario) (same : w.net ≡ net) (can : CanRun w.net w.streams w.script) (h : History) (sent : ℕ) (legal : LegalAt w t (1 + length net.arcs + a) h) (is : LaneStands w h a sent lane) where
+  module _ (w : Scenario) (same : w.net ≡ net) (can : CanRun w.net w.streams w.script) (h : History) (legal : LegalAt w t (1 + length net.arcs + a) h) (is : LaneStands w h a t lane) where
     long : length w.net.arcs ≡ length net.arcs
     long = ap (λ (n : Network). length n.arcs) same
 
@@ -80,11 +84,11 @@ module _ (laws : ArrivalLaws) (net : Network) (t a : ℕ) (a_lt : a < length net
         (one_more w t (1 + length w.net.arcs + a) (Phase.arrivals a) h es (omega (arith, inside)) (arrivals_place (length w.net.arcs) a inside) happens here)
 
     nothing_flies : lane.flying.items ≡ [] → HappensIn w h t (Phase.arrivals a) []
-    nothing_flies none = all_arrived w h t a order cost early (none_flies w a (Begins h a) (Ends h a) (length (Arrivals h a)) (subst (λ (fs : List Flight). AreFlying w a (Begins h a) fs (drop (length (Arrivals h a)) (Ends h a))) none is.flies))
+    nothing_flies none = all_arrived w h t a order cost early (none_flies w a (Begins h a) (Ends h a) (length (Arrivals h a)) (subst (λ (fs : List Flight). AreFlying w a (Begins h a) fs (drop (length (Arrivals h a)) (Ends h a))) none is.on.flies))
 
     module _ (f : Flight) (fs : List Flight) (flies : lane.flying.items ≡ f ∷ fs) where
       first : (e : Ended) × (slice_get (Ends h a) (length (Arrivals h a)) ≡ Some e) × IsFlying w a (Begins h a) f e
-      first = first_flies w a (Begins h a) (Ends h a) (length (Arrivals h a)) f fs (subst (λ (xs : List Flight). AreFlying w a (Begins h a) xs (drop (length (Arrivals h a)) (Ends h a))) flies is.flies)
+      first = first_flies w a (Begins h a) (Ends h a) (length (Arrivals h a)) f fs (subst (λ (xs : List Flight). AreFlying w a (Begins h a) xs (drop (length (Arrivals h a)) (Ends h a))) flies is.on.flies)
 
       -- the next one isn't overdue
       not_overdue : t ≤ f.due.0
@@ -119,32 +123,79 @@ module _ (laws : ArrivalLaws) (net : Network) (t a : ℕ) (a_lt : a < length net
       frame_is : frame_at h a (length (Arrivals h a)) ≡ Some f.frame.number.0
       frame_is = ap (λ o. option_and_then (λ (b : Begin). frame_in b.what) o) begun ∙ ap frame_in first.2.carries.what
 
-      abbrev told : History
-      told = PlainEvent.arrive (record { tick = t; arc = a; ord = f.ord; result = outcome.Frame }) ∷ PlainEvent.deliver (record { tick = t; node = (arc w a).to.0; frame = f.frame.number.0; octets = octets_of f.frame }) ∷ []
+      -- its frame, on this arc
+      frame_right : IsFrameOf w a f.frame
+      frame_right = first.2.carries.frame
 
-      told_is : told ≡ arrival t a (length (Arrivals h a)) outcome.Frame ∷ delivered t (arc w a).to.0 f.frame.number.0 octets (next_arc w a f.frame.number.0)
-      told_is =
-          ap (λ i. arrival t a i outcome.Frame ∷ delivered t (arc w a).to.0 f.frame.number.0 (octets_of f.frame) None) ord_is
-          ∙ (ap (λ os. arrival t a (length (Arrivals h a)) outcome.Frame ∷ delivered t (arc w a).to.0 f.frame.number.0 os None) (octets_are w f.frame first.2.carries.frame)
-          ∙ ap (λ o. arrival t a (length (Arrivals h a)) outcome.Frame ∷ delivered t (arc w a).to.0 f.frame.number.0 octets o) (sym (no_next w can a f.frame.number.0)))
+      abbrev node : ℕ
+      node = (arc w a).to.0
 
-      arrives : f.due.0 ≡ t → HappensIn w h t (Phase.arrivals a) told
+      -- its arrival, and its delivery where its route goes no further
+      abbrev told : Option ℕ → History
+      told o = arrives_at t a f ∷ delivered t node f.frame.number.0 (octets_of f.frame) o
+
+      told_is : told (option_map (λ (b : ArcId). b.0) f.frame.next) ≡ arrival t a (length (Arrivals h a)) outcome.Frame ∷ delivered t node f.frame.number.0 octets (next_arc w a f.frame.number.0)
+      told_is = λ i. arrival t a (ord_is i) outcome.Frame ∷ delivered t node f.frame.number.0 (octets_are w a f.frame frame_right i) (frame_right.next i)
+
+      arrives : f.due.0 ≡ t → HappensIn w h t (Phase.arrivals a) (told (option_map (λ (b : ArcId). b.0) f.frame.next))
       arrives due =
-          let says = subst (λ i. Result (Air w h a) i outcome.Frame × WithDelivery w h t a i outcome.Frame told) (sym (order.end_places (length (Arrivals h a)) first.0 first.1))
+          let events = told (option_map (λ (b : ArcId). b.0) f.frame.next) in
+          let says = subst (λ i. Result (Air w h a) i outcome.Frame × WithDelivery w h t a i outcome.Frame events) (sym (order.end_places (length (Arrivals h a)) first.0 first.1))
           (result, (f.frame.number.0, octets, frame_is, gives, told_is)) in
-          one_arrives w h t a order cost early first.0 first.1 told (sym first.2.due ∙ due) (inl (sym first.2.due ∙ due, (outcome.Frame, says.0, says.1)))
+          one_arrives w h t a order cost early first.0 first.1 events (sym first.2.due ∙ due) (inl (sym first.2.due ∙ due, (outcome.Frame, says.0, says.1)))
 
-      after : f.due.0 ≡ t → IsLane w a (Begins (h ++ told) a) (Ends (h ++ told) a) (length (Arrivals (h ++ told) a)) (StillWaiting (h ++ told) a) sent lane.waiting.items lane.sending lane.free_from.0 lane.begun fs
-      after due =
-          let begins : Begins (h ++ told) a ≡ Begins h a = filter_map-append (begin_on a) h told ∙ append-nil (Begins h a) in
-          let ends : Ends (h ++ told) a ≡ Ends h a = filter_map-append (ended_on a) h told ∙ append-nil (Ends h a) in
-          let one : length (Arrivals told a) ≡ 1 = rw (is_eq a a refl) refl in
-          let arrivals : length (Arrivals (h ++ told) a) ≡ length (Arrivals h a) + 1 = ap length (filter_map-append (arrive_on a) h told) ∙ (length-append (Arrivals h a) (Arrivals told a) ∙ ap (λ n. length (Arrivals h a) + n) one) in
-          let entries : (p : ℕ) → Entries (h ++ told) a p ≡ Entries h a p = λ p. filter_map-append (entry_on a p) h told ∙ append-nil (Entries h a p) in
-          let before = subst (IsLane w a (Begins h a) (Ends h a) (length (Arrivals h a)) (StillWaiting h a) sent lane.waiting.items lane.sending lane.free_from.0 lane.begun) flies is in
-          moved w a (Begins h a) (Begins (h ++ told) a) (Ends h a) (Ends (h ++ told) a) (length (Arrivals h a) + 1) (length (Arrivals (h ++ told) a)) (StillWaiting h a) (StillWaiting (h ++ told) a) sent
-          lane.waiting.items lane.sending lane.free_from.0 lane.begun fs (sym begins) (sym ends) (sym arrivals) (still_same h told a begins entries)
-          (arrived_lane w a (Begins h a) (Ends h a) (length (Arrivals h a)) (StillWaiting h a) sent lane.waiting.items lane.sending lane.free_from.0 lane.begun f fs before)
+      -- what the arrival hands to the bridge
+      abbrev new_arrival : Arrive
+      new_arrival = record { tick = t; arc = a; ord = f.ord; result = outcome.Frame }
+
+      handed : (o : Option ArcId) → f.frame.next ≡ o → onward w a (Begins h a) new_arrival ≡ option_map (λ (b : ArcId). record { due = t + latency w a; arc = b.0; frame = f.frame.number.0 }) o
+      handed o is' =
+          let Goes = λ (n : Option ℕ). option_map {U = Onward} (λ b. record { due = t + latency w a; arc = b; frame = f.frame.number.0 }) n in
+          let found : frame_at h a f.ord ≡ Some f.frame.number.0 = ap (λ p. option_and_then (λ (b : Begin). frame_in b.what) p) first.2.begun ∙ ap frame_in first.2.carries.what in
+          ap (λ p. option_and_then {U = Onward} (λ n. option_map (λ b. record { due = t + latency w a; arc = b; frame = n }) (next_arc w a n)) p) found
+          ∙ (ap Goes (sym frame_right.next) ∙ (ap (λ p. Goes (option_map (λ (b : ArcId). b.0) p)) is' ∙ twice o))
+        where
+          twice : (o : Option ArcId) → option_map {U = Onward} (λ b. record { due = t + latency w a; arc = b; frame = f.frame.number.0 }) (option_map (λ (b : ArcId). b.0) o)
+              ≡ option_map (λ (b : ArcId). record { due = t + latency w a; arc = b.0; frame = f.frame.number.0 }) o
+          twice None = refl
+          twice (Some b) = refl
+
+      -- the lane behind these events
+      module _ (es : History) (none_begins : filter_map (begin_on a) es ≡ []) (none_ends : filter_map (ended_on a) es ≡ []) (one : filter_map (arrive_on a) es ≡ new_arrival ∷ []) (none_enters : (p : ℕ) → filter_map (entry_on a p) es ≡ [])
+          (more : List Passing) (goes : filter_map (onward w a (Begins h a)) (new_arrival ∷ []) ≡ map passes more) (right : Every (λ (p : Passing). IsFrameOf w a p.frame) more) where
+        begins : Begins (h ++ es) a ≡ Begins h a
+        begins = filter_map-append (begin_on a) h es ∙ (ap (λ xs. Begins h a ++ xs) none_begins ∙ append-nil (Begins h a))
+
+        ends : Ends (h ++ es) a ≡ Ends h a
+        ends = filter_map-append (ended_on a) h es ∙ (ap (λ xs. Ends h a ++ xs) none_ends ∙ append-nil (Ends h a))
+
+        arrivals : Arrivals (h ++ es) a ≡ Arrivals h a ++ new_arrival ∷ []
+        arrivals = filter_map-append (arrive_on a) h es ∙ ap (λ xs. Arrivals h a ++ xs) one
+
+        on_after : IsLane w a (Begins (h ++ es) a) (Ends (h ++ es) a) (length (Arrivals (h ++ es) a)) (StillWaiting (h ++ es) a) lane.waiting.items lane.sending lane.free_from.0 lane.begun fs
+        on_after =
+            let many : length (Arrivals (h ++ es) a) ≡ length (Arrivals h a) + 1 = ap length arrivals ∙ length-append (Arrivals h a) (new_arrival ∷ []) in
+            let entries : (p : ℕ) → Entries (h ++ es) a p ≡ Entries h a p = λ p. filter_map-append (entry_on a p) h es ∙ (ap (λ xs. Entries h a p ++ xs) (none_enters p) ∙ append-nil (Entries h a p)) in
+            let before = subst (IsLane w a (Begins h a) (Ends h a) (length (Arrivals h a)) (StillWaiting h a) lane.waiting.items lane.sending lane.free_from.0 lane.begun) flies is.on in
+            moved w a (Begins h a) (Begins (h ++ es) a) (Ends h a) (Ends (h ++ es) a) (length (Arrivals h a) + 1) (length (Arrivals (h ++ es) a)) (StillWaiting h a) (StillWaiting (h ++ es) a)
+            lane.waiting.items lane.sending lane.free_from.0 lane.begun fs (sym begins) (sym ends) (sym many) (still_same h es a begins entries)
+            (arrived_lane w a (Begins h a) (Ends h a) (length (Arrivals h a)) (StillWaiting h a) lane.waiting.items lane.sending lane.free_from.0 lane.begun f fs before)
+
+        inside_after : AreInside w a (Begins (h ++ es) a) (Arrivals (h ++ es) a) t (lane.inside.items ++ more)
+        inside_after =
+            let now = arrived_inside w a t (Begins h a) (Arrivals h a) lane.inside.items new_arrival more is.inside (omega arith) goes right in
+            subst (λ xs. AreInside w a (Begins (h ++ es) a) xs t (lane.inside.items ++ more)) (sym arrivals) (subst (λ bs. AreInside w a bs (Arrivals h a ++ new_arrival ∷ []) t (lane.inside.items ++ more)) (sym begins) now)
+
+        lane_after : (new : Lane) → new.waiting.items ≡ lane.waiting.items → new.sending ≡ lane.sending → new.free_from.0 ≡ lane.free_from.0 → new.begun ≡ lane.begun → new.flying.items ≡ fs → new.inside.items ≡ lane.inside.items ++ more
+            → LaneStands w (h ++ es) a t new
+        lane_after new waiting sending free begun' flying inside' =
+            let g = h ++ es in
+            let IsNew = IsLane w a (Begins g a) (Ends g a) (length (Arrivals g a)) (StillWaiting g a) in
+            let s1 = subst (λ xs. IsNew xs lane.sending lane.free_from.0 lane.begun fs) (sym waiting) on_after in
+            let s2 = subst (λ o. IsNew new.waiting.items o lane.free_from.0 lane.begun fs) (sym sending) s1 in
+            let s3 = subst (λ n. IsNew new.waiting.items new.sending n lane.begun fs) (sym free) s2 in
+            let s4 = subst (λ n. IsNew new.waiting.items new.sending new.free_from.0 n fs) (sym begun') s3 in
+            record { on = subst (IsNew new.waiting.items new.sending new.free_from.0 new.begun) (sym flying) s4; inside = subst (AreInside w a (Begins g a) (Arrivals g a) t) (sym inside') inside_after }
 
   -- nothing is on its way
   pub empty_part : lane.flying.items ≡ [] → LanePart net t (1 + length net.arcs + a) a 0 lane lane []
@@ -152,8 +203,13 @@ module _ (laws : ArrivalLaws) (net : Network) (t a : ℕ) (a_lt : a < length net
     arc = tt;
     deliveries = refl;
     drops = refl;
-    legal = λ w same can h sent legal is. (next w same can h sent legal is [] (nothing_flies w same can h sent legal is none), stays_standing w h a sent lane is);
+    legal = λ w same can h legal is. (next w same can h legal is [] (nothing_flies w same can h legal is none), stays_standing w h a t lane is);
   }
+
+  -- nothing was told
+  pub arrival_no_front : LaneFront net t (1 + length net.arcs + a) a lane []
+  arrival_no_front w same can h legal is =
+      whole_front w (n w same can h legal is) (h ++ []) (subst (LegalUpTo w (n w same can h legal is)) (sym (append-nil h)) (here w same can h legal is))
 
   module _ (f : Flight) (fs : List Flight) (flies : lane.flying.items ≡ f ∷ fs) where
     -- what flies isn't due
@@ -162,55 +218,85 @@ module _ (laws : ArrivalLaws) (net : Network) (t a : ℕ) (a_lt : a < length net
       arc = tt;
       deliveries = refl;
       drops = refl;
-      legal = λ w same can h sent legal is. (next w same can h sent legal is [] (not_yet w same can h sent legal is f fs flies other), stays_standing w h a sent lane is);
+      legal = λ w same can h legal is. (next w same can h legal is [] (not_yet w same can h legal is f fs flies other), stays_standing w h a t lane is);
     }
 
-    module _ (due : f.due.0 ≡ t) (link : Arc) (found : slice_get net.arcs a ≡ Some link) (octets : List ℕ) (spelled : octets ≡ octets_of f.frame) where
-      link_is : (w : Scenario) → w.net ≡ net → arc w a ≡ link
-      link_is w same = ap (λ (n : Network). slice_index_or n.arcs a no_arc) same ∙ read_at net.arcs a link no_arc found
+    module _ (due : f.due.0 ≡ t) where
+      test_arc : (a == a) ≡ true
+      test_arc = is_eq a a refl
 
-      abbrev first_event : PlainEvent
-      first_event = PlainEvent.arrive (record { tick = t; arc = a; ord = f.ord; result = outcome.Frame })
+      one_arrives_here : (es : History) → filter_map (arrive_on a) es ≡ [] → filter_map (arrive_on a) (arrives_at t a f ∷ es) ≡ record { tick = t; arc = a; ord = f.ord; result = outcome.Frame } ∷ []
+      one_arrives_here es none = rw test_arc (ap (λ xs. record { tick = t; arc = a; ord = f.ord; result = outcome.Frame } ∷ xs) none)
 
-      abbrev second_event : PlainEvent
-      second_event = PlainEvent.deliver (record { tick = t; node = link.to.0; frame = f.frame.number.0; octets = octets })
+      -- where its route goes no further
+      module _ (last : f.frame.next ≡ None) where
+        given : (w : Scenario) (same : w.net ≡ net) (can : CanRun w.net w.streams w.script) (h : History) (legal : LegalAt w t (1 + length net.arcs + a) h) → LaneStands w h a t lane
+            → LegalAt w t (1 + length net.arcs + a + 1) (h ++ arrives_at t a f ∷ delivered_at net t a f ∷ [])
+        given w same can h legal is =
+            let events = arrives w same can h legal is f fs flies due in
+            let none = subst (λ o. HappensIn w h t (Phase.arrivals a) (arrives_at t a f ∷ delivered t (arc w a).to.0 f.frame.number.0 (octets_of f.frame) (option_map (λ (b : ArcId). b.0) o))) last events in
+            let both = subst (λ (m : Network). HappensIn w h t (Phase.arrivals a) (arrives_at t a f ∷ delivered_at m t a f ∷ [])) same none in
+            next w same can h legal is (arrives_at t a f ∷ delivered_at net t a f ∷ []) both
 
-      both_are : (w : Scenario) (same : w.net ≡ net) → first_event ∷ PlainEvent.deliver (record { tick = t; node = (arc w a).to.0; frame = f.frame.number.0; octets = octets_of f.frame }) ∷ [] ≡ first_event ∷ second_event ∷ []
-      both_are w same = λ i. first_event ∷ PlainEvent.deliver (record { tick = t; node = (link_is w same i).to.0; frame = f.frame.number.0; octets = sym spelled i }) ∷ []
+        -- the events up to the arrival are a front, and so are both
+        pub arrive_front : LaneFront net t (1 + length net.arcs + a) a lane (arrives_at t a f ∷ [])
+        arrive_front w same can h legal is =
+            (number (length w.net.arcs) t (1 + length net.arcs + a + 1), delivered_at net t a f ∷ [], subst (LegalUpTo w (number (length w.net.arcs) t (1 + length net.arcs + a + 1))) (split h) (given w same can h legal is))
+          where
+            split : (g : History) → g ++ arrives_at t a f ∷ delivered_at net t a f ∷ [] ≡ (g ++ arrives_at t a f ∷ []) ++ delivered_at net t a f ∷ []
+            split [] = refl
+            split (e ∷ g) = ap (λ x. e ∷ x) (split g)
 
-      whole_legal : (w : Scenario) (same : w.net ≡ net) (can : CanRun w.net w.streams w.script) (h : History) (sent : ℕ) (legal : LegalAt w t (1 + length net.arcs + a) h) → LaneStands w h a sent lane
-          → LegalAt w t (1 + length net.arcs + a + 1) (h ++ first_event ∷ second_event ∷ [])
-      whole_legal w same can h sent legal is =
-          subst (λ es. LegalAt w t (1 + length net.arcs + a + 1) (h ++ es)) (both_are w same)
-          (next w same can h sent legal is (told w same can h sent legal is f fs flies) (arrives w same can h sent legal is f fs flies due))
+        pub both_front : LaneFront net t (1 + length net.arcs + a) a lane (arrives_at t a f ∷ delivered_at net t a f ∷ [])
+        both_front w same can h legal is = whole_front w (number (length w.net.arcs) t (1 + length net.arcs + a + 1)) (h ++ arrives_at t a f ∷ delivered_at net t a f ∷ []) (given w same can h legal is)
 
-      -- the events up to the arrival are a front, and so are both
-      pub arrive_front : LaneFront net t (1 + length net.arcs + a) a lane (first_event ∷ [])
-      arrive_front w same can h sent legal is =
-          (number (length w.net.arcs) t (1 + length net.arcs + a + 1), second_event ∷ [], subst (LegalUpTo w (number (length w.net.arcs) t (1 + length net.arcs + a + 1))) (split h) (whole_legal w same can h sent legal is))
-        where
-          split : (g : History) → g ++ first_event ∷ second_event ∷ [] ≡ (g ++ first_event ∷ []) ++ second_event ∷ []
-          split [] = refl
-          split (e ∷ g) = ap (λ x. e ∷ x) (split g)
+        pub given_front : (es : History) → GivenFront net t a f es → LaneFront net t (1 + length net.arcs + a) a lane es
+        given_front es (inl is) = subst (LaneFront net t (1 + length net.arcs + a) a lane) (sym is) arrive_front
+        given_front es (inr is) = subst (LaneFront net t (1 + length net.arcs + a) a lane) (sym is) both_front
 
-      pub both_front : LaneFront net t (1 + length net.arcs + a) a lane (first_event ∷ second_event ∷ [])
-      both_front w same can h sent legal is = whole_front w (number (length w.net.arcs) t (1 + length net.arcs + a + 1)) (h ++ first_event ∷ second_event ∷ []) (whole_legal w same can h sent legal is)
-
-      module _ (new : Lane) (waiting : new.waiting.items ≡ lane.waiting.items) (sending : new.sending ≡ lane.sending) (free : new.free_from.0 ≡ lane.free_from.0) (begun : new.begun ≡ lane.begun) (flying : new.flying.items ≡ fs) where
-        pub arrived_part : LanePart net t (1 + length net.arcs + a) a 1 lane new (first_event ∷ second_event ∷ [])
-        arrived_part = record {
+        pub given_part : (new : Lane) → new.waiting.items ≡ lane.waiting.items → new.sending ≡ lane.sending → new.free_from.0 ≡ lane.free_from.0 → new.begun ≡ lane.begun → new.flying.items ≡ fs → new.inside.items ≡ lane.inside.items
+            → LanePart net t (1 + length net.arcs + a) a 1 lane new (arrives_at t a f ∷ delivered_at net t a f ∷ [])
+        given_part new waiting sending free begun' flying inside' = record {
           arc = (refl, (tt, tt));
           deliveries = refl;
           drops = refl;
-          legal = λ w same can h sent legal is.
-              let g = h ++ first_event ∷ second_event ∷ [] in
-              let IsNew = IsLane w a (Begins g a) (Ends g a) (length (Arrivals g a)) (StillWaiting g a) sent in
-              let zero_ : IsNew lane.waiting.items lane.sending lane.free_from.0 lane.begun fs
-              = subst (λ es. IsLane w a (Begins (h ++ es) a) (Ends (h ++ es) a) (length (Arrivals (h ++ es) a)) (StillWaiting (h ++ es) a) sent lane.waiting.items lane.sending lane.free_from.0 lane.begun fs) (both_are w same)
-              (after w same can h sent legal is f fs flies due) in
-              let one = subst (λ xs. IsNew xs lane.sending lane.free_from.0 lane.begun fs) (sym waiting) zero_ in
-              let two = subst (λ o. IsNew new.waiting.items o lane.free_from.0 lane.begun fs) (sym sending) one in
-              let three = subst (λ n. IsNew new.waiting.items new.sending n lane.begun fs) (sym free) two in
-              let four = subst (λ n. IsNew new.waiting.items new.sending new.free_from.0 n fs) (sym begun) three in
-              (whole_legal w same can h sent legal is, subst (IsNew new.waiting.items new.sending new.free_from.0 new.begun) (sym flying) four);
+          legal = λ w same can h legal is. (
+            given w same can h legal is,
+            lane_after w same can h legal is f fs flies (arrives_at t a f ∷ delivered_at net t a f ∷ []) refl refl (one_arrives_here (delivered_at net t a f ∷ []) refl) (λ p. refl) []
+                (ap (λ o. cons_option o []) (handed w same can h legal is f fs flies None last)) tt new waiting sending free begun' flying (inside' ∙ sym (append-nil lane.inside.items)),
+          );
+        }
+
+      -- where its route goes on
+      module _ (onto : ArcId) (goes_on : f.frame.next ≡ Some onto) where
+        kept : (w : Scenario) (same : w.net ≡ net) (can : CanRun w.net w.streams w.script) (h : History) (legal : LegalAt w t (1 + length net.arcs + a) h) → LaneStands w h a t lane
+            → LegalAt w t (1 + length net.arcs + a + 1) (h ++ arrives_at t a f ∷ [])
+        kept w same can h legal is =
+            let events = arrives w same can h legal is f fs flies due in
+            next w same can h legal is (arrives_at t a f ∷ [])
+            (subst (λ o. HappensIn w h t (Phase.arrivals a) (arrives_at t a f ∷ delivered t (arc w a).to.0 f.frame.number.0 (octets_of f.frame) (option_map (λ (b : ArcId). b.0) o))) goes_on events)
+
+        pub kept_front : LaneFront net t (1 + length net.arcs + a) a lane (arrives_at t a f ∷ [])
+        kept_front w same can h legal is = whole_front w (number (length w.net.arcs) t (1 + length net.arcs + a + 1)) (h ++ arrives_at t a f ∷ []) (kept w same can h legal is)
+
+        pub either_front : (es : History) → ArrivalFront t a f es → LaneFront net t (1 + length net.arcs + a) a lane es
+        either_front es (inl is) = subst (LaneFront net t (1 + length net.arcs + a) a lane) (sym is) arrival_no_front
+        either_front es (inr is) = subst (LaneFront net t (1 + length net.arcs + a) a lane) (sym is) kept_front
+
+        abbrev passing : Passing
+        passing = record { frame = f.frame; next = onto; due = record { 0 = t + stay net a } }
+
+        pub kept_part : (new : Lane) → new.waiting.items ≡ lane.waiting.items → new.sending ≡ lane.sending → new.free_from.0 ≡ lane.free_from.0 → new.begun ≡ lane.begun → new.flying.items ≡ fs → new.inside.items ≡ lane.inside.items ++ passing ∷ []
+            → LanePart net t (1 + length net.arcs + a) a 0 lane new (arrives_at t a f ∷ [])
+        kept_part new waiting sending free begun' flying inside' = record {
+          arc = (refl, tt);
+          deliveries = refl;
+          drops = refl;
+          legal = λ w same can h legal is.
+              let stays : latency w a ≡ stay net a = ap (λ (m : Network). stay m a) same in (
+                kept w same can h legal is,
+                lane_after w same can h legal is f fs flies (arrives_at t a f ∷ []) refl refl (one_arrives_here [] refl) (λ p. refl) (passing ∷ [])
+                    (ap (λ o. cons_option o []) (handed w same can h legal is f fs flies (Some onto) goes_on ∙ ap (λ n. Some (record { due = t + n; arc = onto.0; frame = f.frame.number.0 })) stays))
+                    (frame_right w same can h legal is f fs flies, tt) new waiting sending free begun' flying inside',
+              );
         }

@@ -29,9 +29,9 @@ first_flies w a begins ends n f fs flies = go (drop n ends) refl flies
     go [] is all = absurd all
     go (e ∷ es) is all = (e, at_drop ends n e es is, all.0)
 
-pub arrived_lane : (w : Scenario) (a : ℕ) (begins : List Begin) (ends : List Ended) (arrived : ℕ) (waits : ℕ → List ℕ) (sent : ℕ) (waiting : List Frame) (sending : Option Flight) (free_from begun : ℕ) (f : Flight) (fs : List Flight)
-    → IsLane w a begins ends arrived waits sent waiting sending free_from begun (f ∷ fs) → IsLane w a begins ends (arrived + 1) waits sent waiting sending free_from begun fs
-arrived_lane w a begins ends arrived waits sent waiting sending free_from begun f fs is = record {
+pub arrived_lane : (w : Scenario) (a : ℕ) (begins : List Begin) (ends : List Ended) (arrived : ℕ) (waits : ℕ → List ℕ) (waiting : List Frame) (sending : Option Flight) (free_from begun : ℕ) (f : Flight) (fs : List Flight)
+    → IsLane w a begins ends arrived waits waiting sending free_from begun (f ∷ fs) → IsLane w a begins ends (arrived + 1) waits waiting sending free_from begun fs
+arrived_lane w a begins ends arrived waits waiting sending free_from begun f fs is = record {
   begun_is = is.begun_is;
   sent_is = is.sent_is;
   free = is.free;
@@ -39,8 +39,8 @@ arrived_lane w a begins ends arrived waits sent waiting sending free_from begun 
   waits_are = is.waits_are;
   fits = is.fits;
   frames = is.frames;
-  order = is.order;
-  came = is.came;
+  apart = is.apart;
+  goes = is.goes;
   whole = is.whole;
 }
   where

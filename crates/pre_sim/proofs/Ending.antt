@@ -25,13 +25,13 @@ is_eq : (m n : ℕ) → m ≡ n → (m == n) ≡ true
 is_eq m n e = grind (arith, nat_tests)
 
 -- the frame's octets are those of the script's frame
-pub octets_are : (w : Scenario) (f : Frame) → IsFrameOf w f → octets_of f ≡ FrameOf w f.number.0
-octets_are w f is = λ i. frame_of (is.destination i) (is.source i) (is.prio i) (is.vid i) f.number.0 (is.size i)
+pub octets_are : (w : Scenario) (a : ℕ) (f : Frame) → IsFrameOf w a f → octets_of f ≡ FrameOf w f.number.0
+octets_are w a f is = λ i. frame_of (is.destination i) (is.source i) (is.prio i) (is.vid i) f.number.0 (is.size i)
 
-pub size_is : (w : Scenario) (f : Frame) → IsFrameOf w f → length (FrameOf w f.number.0) ≡ f.size
-size_is w f is =
+pub size_is : (w : Scenario) (a : ℕ) (f : Frame) → IsFrameOf w a f → length (FrameOf w f.number.0) ≡ f.size
+size_is w a f is =
     let low : 26 ≤ f.size = omega (arith, f.size_range) in
-    sym (ap length (octets_are w f is)) ∙ length-frame_of f.destination.0 f.source.0 f.prio f.vid f.number.0 f.size low
+    sym (ap length (octets_are w a f is)) ∙ length-frame_of f.destination.0 f.source.0 f.prio f.vid f.number.0 f.size low
 
 take_front : (xs ys : List ℕ) (n : ℕ) → n ≡ length xs → take n (xs ++ ys) ≡ xs
 take_front [] ys zero is = refl
@@ -47,12 +47,12 @@ front_octets f into more size is are =
     ap (take size) are ∙ take_front (octets_of f) more size (is ∙ sym long)
 
 module _ (w : Scenario) (h : History) (t a : ℕ) (order : IsOrdered w h a) (sizes : HaveSizes w h a)
-    (on : Every (λ (b : Begin). b.arc ≡ a) (Begins h a)) (early : Every (λ (e : Ended). e.tick < t) (Ends h a)) (sent : ℕ) (whole : Every (IsWholeBegin sent) (Begins h a)) where
+    (on : Every (λ (b : Begin). b.arc ≡ a) (Begins h a)) (early : Every (λ (e : Ended). e.tick < t) (Ends h a)) (whole : Every IsWholeBegin (Begins h a)) where
   -- an mPacket that has ended isn't due again
   not_again : (i : ℕ) (b : Begin) → i < length (Ends h a) → slice_get (Begins h a) i ≡ Some b → (e : PlainEvent) → ¬ EndDue w h t b e
   not_again i b lt at e (size, sized, due, is) =
       let d = there (Ends h a) i lt in
-      let express : b.kind ≡ kind.Express = (every_at (IsWholeBegin sent) (Begins h a) i b whole at).kind in
+      let express : b.kind ≡ kind.Express = (every_at IsWholeBegin (Begins h a) i b whole at).kind in
       let its : size ≡ length (WholeOf w h b) = subst (λ k. SizeOf w h k b size) express sized in
       let had : d.0.size ≡ length (WholeOf w h b) = subst (λ k. SizeOf w h k b d.0.size) express (sizes i b d.0 at d.1) in
       let arc_is : b.arc ≡ a = every_at (λ (b : Begin). b.arc ≡ a) (Begins h a) i b on at in
@@ -78,7 +78,7 @@ module _ (w : Scenario) (h : History) (t a : ℕ) (order : IsOrdered w h a) (siz
     whole_is = ap (whole_of w h b) is.carries.what
 
     long : length (WholeOf w h b) ≡ flight.frame.size
-    long = ap length whole_is ∙ size_is w flight.frame is.carries.frame
+    long = ap length whole_is ∙ size_is w a flight.frame is.carries.frame
 
     others : (i : ℕ) (c : Begin) → i ≢ length (Ends h a) → slice_get (Begins h a) i ≡ Some c → OneOrNone (EndDue w h t c) []
     others i c other at = inr (not_again i c (omega (arith, other, is.unended, within (Begins h a) i c at)) at, refl)
@@ -103,7 +103,7 @@ module _ (w : Scenario) (h : History) (t a : ℕ) (order : IsOrdered w h a) (siz
     check_is : CheckOf w h b flight.frame.size ≡ last_four (octets_of flight.frame)
     check_is =
         let all : (b.from + flight.frame.size == length (WholeOf w h b)) ≡ true = is_eq (b.from + flight.frame.size) (length (WholeOf w h b)) (omega (arith, is.carries.from, long)) in
-        rw all (ap last_four (whole_is ∙ sym (octets_are w flight.frame is.carries.frame)))
+        rw all (ap last_four (whole_is ∙ sym (octets_are w a flight.frame is.carries.frame)))
 
     event_is : PlainEvent.ended ended ≡ PlainEvent.ended (record { tick = t; arc = b.arc; ord = b.ord; size = flight.frame.size; check = CheckOf w h b flight.frame.size })
     event_is = λ i. PlainEvent.ended (record { tick = t; arc = sym arc_is i; ord = sym is.carries.ord i; size = flight.frame.size; check = sym check_is i })
@@ -125,11 +125,11 @@ still_flying w a begins [] (x ∷ es) f e all is = absurd all
 still_flying w a begins (g ∷ fs) [] f e all is = absurd all
 still_flying w a begins (g ∷ fs) (x ∷ es) f e (here, more) is = (here, still_flying w a begins fs es f e more is)
 
-pub ended_lane : (w : Scenario) (a t : ℕ) (begins : List Begin) (ends : List Ended) (arrived : ℕ) (waits : ℕ → List ℕ) (sent : ℕ) (waiting : List Frame) (flight : Flight) (free_from begun : ℕ) (flying : List Flight) (e : Ended)
-    → IsLane w a begins ends arrived waits sent waiting (Some flight) free_from begun flying → arrived ≤ length ends → ((i : ℕ) (b : Begin) → slice_get begins i ≡ Some b → b.ord ≡ i)
+pub ended_lane : (w : Scenario) (a t : ℕ) (begins : List Begin) (ends : List Ended) (arrived : ℕ) (waits : ℕ → List ℕ) (waiting : List Frame) (flight : Flight) (free_from begun : ℕ) (flying : List Flight) (e : Ended)
+    → IsLane w a begins ends arrived waits waiting (Some flight) free_from begun flying → arrived ≤ length ends → ((i : ℕ) (b : Begin) → slice_get begins i ≡ Some b → b.ord ≡ i)
     → Every (λ (e : Ended). e.tick < t) ends → e.tick ≡ t → e.ord ≡ flight.ord
-    → IsLane w a begins (ends ++ e ∷ []) arrived waits sent waiting None (t + 12 * (arc w a).cost) begun (flying ++ record { frame = flight.frame; ord = flight.ord; due = record { 0 = t + (arc w a).delay } } ∷ [])
-ended_lane w a t begins ends arrived waits sent waiting flight free_from begun flying e is few places early tick ord =
+    → IsLane w a begins (ends ++ e ∷ []) arrived waits waiting None (t + 12 * (arc w a).cost) begun (flying ++ record { frame = flight.frame; ord = flight.ord; due = record { 0 = t + (arc w a).delay } } ∷ [])
+ended_lane w a t begins ends arrived waits waiting flight free_from begun flying e is few places early tick ord =
     let s = is.sent_is in
     let long : length (ends ++ e ∷ []) ≡ length ends + 1 = length-append ends (e ∷ []) in
     record {
@@ -151,7 +151,7 @@ ended_lane w a t begins ends arrived waits sent waiting flight free_from begun f
       waits_are = is.waits_are;
       fits = is.fits;
       frames = is.frames;
-      order = is.order;
-      came = is.came;
+      apart = is.apart;
+      goes = is.goes;
       whole = is.whole;
     }

@@ -1,5 +1,5 @@
 -- The lane after a frame came to its ring.
-use Rattle.std.proofs.Common.{ℕ, ◌≡◌, ◌==◌, ◌&&◌, ◌+◌, ◌<◌, ◌≤◌, not, Bool, true, false, List, [], ◌∷◌, ◌++◌, length, refl, sym, ◌∙◌, ap, arith, subst, Option, Some, map, filter, length-append}
+use Rattle.std.proofs.Common.{ℕ, ◌≡◌, ◌≢◌, ◌==◌, ◌&&◌, ◌+◌, ◌<◌, ◌≤◌, not, Bool, true, false, List, [], ◌∷◌, ◌++◌, length, refl, sym, ◌∙◌, ap, arith, subst, Option, Some, map, filter, length-append}
 use Rattle.std.specs.Prelude.{slice_get, slice_index, if◌then◌else◌, count_by}
 use Rattle.std.specs.List.{list_any, AllByRecursion as Every}
 use Rattle.std.proofs.Math.Path.{fun_ext}
@@ -17,7 +17,7 @@ use Rattle.pre_trace.specs.Queries.{Begins, Entries, Waiting}
 use Rattle.pre_trace.specs.Comings.{Coming, entry_for, entry_event}
 use Rattle.pre_sim.specs.declared.plans.Frame.{Frame}
 use Rattle.pre_sim.specs.declared.lanes.Flight.{Flight}
-use Rattle.pre_sim.specs.Stands.{IsFrameOf, IsWholeBegin, IsLane, InOrder, numbers_of, has_begun, StillWaiting}
+use Rattle.pre_sim.specs.Stands.{IsFrameOf, GoesWhole, IsLane, AreApart, numbers_of, has_begun, StillWaiting}
 use Rattle.pre_sim.proofs.Lists.{every-append, every_weaker, read_at}
 
 no_eq : (m n : ℕ) → m < n → (m == n) ≡ false
@@ -38,9 +38,9 @@ drops w t h c full = rw (is_eq (length (Waiting h c.arc (row w c.frame).prio t))
 
 -- ---- the lane
 
-order_push : (fs : List Frame) (f : Frame) → InOrder fs → Every (λ (g : Frame). g.number.0 < f.number.0) fs → InOrder (fs ++ f ∷ [])
-order_push [] f order before = (tt, tt)
-order_push (g ∷ fs) f (first, order) (lt, before) = (every-append (λ (y : Frame). g.number.0 < y.number.0) fs (f ∷ []) first (lt, tt), order_push fs f order before)
+apart_push : (fs : List Frame) (f : Frame) → AreApart fs → Every (λ (g : Frame). g.number.0 ≢ f.number.0) fs → AreApart (fs ++ f ∷ [])
+apart_push [] f apart other = (tt, tt)
+apart_push (g ∷ fs) f (first, apart) (here, other) = (every-append (λ (y : Frame). g.number.0 ≢ y.number.0) fs (f ∷ []) first (here, tt), apart_push fs f apart other)
 
 -- one number more at the frame's priority
 abbrev pub pushed : ℕ → ℕ → ℕ → List ℕ → List ℕ
@@ -69,46 +69,59 @@ room_push w a p fs f fits room = go (f.prio == p) refl
         omega (arith, ap length more, length-append (numbers_of p fs) [], fits)
 
 -- a frame entered
-pub entered_lane : (w : Scenario) (a : ℕ) (begins : List Begin) (ends : List Ended) (arrived : ℕ) (waits : ℕ → List ℕ) (sent : ℕ) (waiting : List Frame) (sending : Option Flight) (free_from begun : ℕ) (flying : List Flight) (f : Frame)
-    → IsLane w a begins ends arrived waits sent waiting sending free_from begun flying → IsFrameOf w f → f.number.0 ≡ sent → length (numbers_of f.prio waiting) < capacity w a f.prio
-    → IsLane w a begins ends arrived (λ p. pushed f.prio f.number.0 p (waits p)) (sent + 1) (waiting ++ f ∷ []) sending free_from begun flying
-entered_lane w a begins ends arrived waits sent waiting sending free_from begun flying f is right number room = record {
+pub entered_lane : (w : Scenario) (a : ℕ) (begins : List Begin) (ends : List Ended) (arrived : ℕ) (waits : ℕ → List ℕ) (waiting : List Frame) (sending : Option Flight) (free_from begun : ℕ) (flying : List Flight) (f : Frame)
+    → IsLane w a begins ends arrived waits waiting sending free_from begun flying → IsFrameOf w a f → GoesWhole w a f → Every (λ (g : Frame). g.number.0 ≢ f.number.0) waiting → length (numbers_of f.prio waiting) < capacity w a f.prio
+    → IsLane w a begins ends arrived (λ p. pushed f.prio f.number.0 p (waits p)) (waiting ++ f ∷ []) sending free_from begun flying
+entered_lane w a begins ends arrived waits waiting sending free_from begun flying f is right goes other room = record {
   begun_is = is.begun_is;
   sent_is = is.sent_is;
   free = is.free;
   flies = is.flies;
   waits_are = λ p. numbers_push p waiting f ∙ ap (pushed f.prio f.number.0 p) (is.waits_are p);
   fits = λ p. room_push w a p waiting f (is.fits p) room;
-  frames = every-append (IsFrameOf w) waiting (f ∷ []) is.frames (right, tt);
-  order = order_push waiting f is.order (every_weaker (λ (g : Frame). g.number.0 < sent) (λ (g : Frame). g.number.0 < f.number.0) (λ g lt. omega (arith, lt, number)) waiting is.came);
-  came = every-append (λ (g : Frame). g.number.0 < sent + 1) waiting (f ∷ []) (every_weaker (λ (g : Frame). g.number.0 < sent) (λ (g : Frame). g.number.0 < sent + 1) (λ g lt. omega (arith, lt)) waiting is.came) (omega (arith, number), tt);
-  whole = every_weaker (IsWholeBegin sent) (IsWholeBegin (sent + 1)) (λ b x. record { kind = x.kind; frame = x.frame; what = x.what; came = omega (arith, x.came) }) begins is.whole;
-}
-
--- a frame was sent elsewhere, or dropped
-pub passed_lane : (w : Scenario) (a : ℕ) (begins : List Begin) (ends : List Ended) (arrived : ℕ) (waits : ℕ → List ℕ) (sent : ℕ) (waiting : List Frame) (sending : Option Flight) (free_from begun : ℕ) (flying : List Flight)
-    → IsLane w a begins ends arrived waits sent waiting sending free_from begun flying → IsLane w a begins ends arrived waits (sent + 1) waiting sending free_from begun flying
-passed_lane w a begins ends arrived waits sent waiting sending free_from begun flying is = record {
-  begun_is = is.begun_is;
-  sent_is = is.sent_is;
-  free = is.free;
-  flies = is.flies;
-  waits_are = is.waits_are;
-  fits = is.fits;
-  frames = is.frames;
-  order = is.order;
-  came = every_weaker (λ (g : Frame). g.number.0 < sent) (λ (g : Frame). g.number.0 < sent + 1) (λ g lt. omega (arith, lt)) waiting is.came;
-  whole = every_weaker (IsWholeBegin sent) (IsWholeBegin (sent + 1)) (λ b x. record { kind = x.kind; frame = x.frame; what = x.what; came = omega (arith, x.came) }) begins is.whole;
+  frames = every-append (IsFrameOf w a) waiting (f ∷ []) is.frames (right, tt);
+  apart = apart_push waiting f is.apart other;
+  goes = every-append (GoesWhole w a) waiting (f ∷ []) is.goes (goes, tt);
+  whole = is.whole;
 }
 
 -- ---- what still waits
 
-not_begun : (sent f : ℕ) (bs : List Begin) → Every (IsWholeBegin sent) bs → sent ≤ f → list_any (λ (b : Begin). what_is b.what f && (b.from == 0)) bs ≡ false
-not_begun sent f [] all le = refl
-not_begun sent f (b ∷ bs) (here, more) le =
-    let other : (here.frame.0 == f) ≡ false = no_eq here.frame.0 f (omega (arith, here.came, le)) in
-    let test : what_is b.what f ≡ false = ap (λ x. what_is x f) here.what ∙ other in
-    rw test (not_begun sent f bs more le)
+not_begun : (f : ℕ) (bs : List Begin) → Every (λ (b : Begin). what_is b.what f ≡ false) bs → list_any (λ (b : Begin). what_is b.what f && (b.from == 0)) bs ≡ false
+not_begun f [] all = refl
+not_begun f (b ∷ bs) (here, more) = rw here (not_begun f bs more)
+
+-- what waits came before
+waits_came : (p f : ℕ) (begun : ℕ → Bool) (es : List RingEntry) → Every (λ (e : RingEntry). e.frame ≢ f) es → Every (λ (n : ℕ). n ≢ f) (map (λ (e : RingEntry). e.frame) (filter (λ (e : RingEntry). e.entered && not (begun e.frame)) es))
+waits_came p f begun [] all = tt
+waits_came p f begun (e ∷ es) (here, more) = go (e.entered && not (begun e.frame)) (waits_came p f begun es more)
+  where
+    go : (b : Bool) → Every (λ (n : ℕ). n ≢ f) (map (λ (e : RingEntry). e.frame) (filter (λ (e : RingEntry). e.entered && not (begun e.frame)) es))
+        → Every (λ (n : ℕ). n ≢ f) (map (λ (e : RingEntry). e.frame) (if b then e ∷ filter (λ (e : RingEntry). e.entered && not (begun e.frame)) es else filter (λ (e : RingEntry). e.entered && not (begun e.frame)) es))
+    go true rest = (here, rest)
+    go false rest = rest
+
+pub still_came : (h : History) (a p f : ℕ) → Every (λ (e : RingEntry). e.frame ≢ f) (Entries h a p) → Every (λ (n : ℕ). n ≢ f) (StillWaiting h a p)
+unfolding StillWaiting
+still_came h a p f all = waits_came p f (has_begun h a) (Entries h a p) all
+
+numbered : (g : Frame) (fs : List Frame) (k : ℕ) → Every (λ (n : ℕ). n ≢ k) (numbers_of g.prio (g ∷ fs)) → g.number.0 ≢ k
+numbered g fs k all =
+    let test : (g.prio == g.prio) ≡ true = is_eq g.prio g.prio refl in
+    let here : numbers_of g.prio (g ∷ fs) ≡ g.number.0 ∷ numbers_of g.prio fs = rw test refl in
+    (subst (Every (λ (n : ℕ). n ≢ k)) here all).0
+
+fewer_numbers : (p k : ℕ) (g : Frame) (fs : List Frame) → Every (λ (n : ℕ). n ≢ k) (numbers_of p (g ∷ fs)) → Every (λ (n : ℕ). n ≢ k) (numbers_of p fs)
+fewer_numbers p k g fs = go (g.prio == p)
+  where
+    go : (b : Bool) → Every (λ (n : ℕ). n ≢ k) (map (λ (f : Frame). f.number.0) (if b then g ∷ filter (λ (f : Frame). f.prio == p) fs else filter (λ (f : Frame). f.prio == p) fs)) → Every (λ (n : ℕ). n ≢ k) (numbers_of p fs)
+    go true all = all.1
+    go false all = all
+
+-- a frame that none of the rings holds is another than those that wait
+pub all_other : (fs : List Frame) (k : ℕ) → ((p : ℕ) → Every (λ (n : ℕ). n ≢ k) (numbers_of p fs)) → Every (λ (g : Frame). g.number.0 ≢ k) fs
+all_other [] k all = tt
+all_other (g ∷ fs) k all = (numbered g fs k (all g.prio), all_other fs k (λ p. fewer_numbers p k g fs (all p)))
 
 abbrev still : (ℕ → Bool) → List RingEntry → List ℕ
 still begun xs = map (λ (e : RingEntry). e.frame) (filter (λ (e : RingEntry). e.entered && not (begun e.frame)) xs)
@@ -116,10 +129,10 @@ still begun xs = map (λ (e : RingEntry). e.frame) (filter (λ (e : RingEntry). 
 abbrev entry : (t a prio k : ℕ) → History
 entry t a prio k = PlainEvent.enter (record { tick = t; arc = a; prio = prio; frame = k }) ∷ []
 
-pub still_pushed : (h : History) (a t prio k sent : ℕ) → Every (IsWholeBegin sent) (Begins h a) → sent ≤ k
+pub still_pushed : (h : History) (a t prio k : ℕ) → Every (λ (b : Begin). what_is b.what k ≡ false) (Begins h a)
     → (λ p. pushed prio k p (StillWaiting h a p)) ≡ StillWaiting (h ++ PlainEvent.enter (record { tick = t; arc = a; prio = prio; frame = k }) ∷ []) a
 unfolding StillWaiting
-still_pushed h a t prio k sent whole le = fun_ext (λ p. sym (one p))
+still_pushed h a t prio k unbegun = fun_ext (λ p. sym (one p))
   where
     begins : Begins (h ++ entry t a prio k) a ≡ Begins h a
     begins = filter_map-append (begin_on a) h (entry t a prio k) ∙ append-nil (Begins h a)
@@ -127,7 +140,7 @@ still_pushed h a t prio k sent whole le = fun_ext (λ p. sym (one p))
     new : (p : ℕ) (b : Bool) → (prio == p) ≡ b → still (has_begun h a) (Entries (entry t a prio k) a p) ≡ (if b then k ∷ [] else [])
     new p true is =
         let here : (a == a) ≡ true = is_eq a a refl in
-        let fresh : has_begun h a k ≡ false = not_begun sent k (Begins h a) whole le in
+        let fresh : has_begun h a k ≡ false = not_begun k (Begins h a) unbegun in
         rw (here, is, fresh) refl
     new p false is =
         let here : (a == a) ≡ true = is_eq a a refl in

@@ -1,16 +1,21 @@
--- The frames that come to a ring at a tick are those of its sends.
-use Rattle.std.proofs.Common.{ℕ, zero, suc, ◌≡◌, ◌≢◌, ◌==◌, ◌&&◌, ◌+◌, ◌<◌, ◌≤◌, Bool, true, false, List, [], ◌∷◌, ◌++◌, length, drop, refl, sym, ◌∙◌, ap, arith, subst, Option, Some, None, filter_map, flat_map}
-use Rattle.std.specs.Prelude.{slice_index_or, if◌then◌else◌, option_map, option_and_then}
+-- The frames that come to a ring at a tick are those that bridges hand on, and those of its sends.
+use Rattle.std.proofs.Common.{ℕ, zero, suc, ◌≡◌, ◌≢◌, ◌==◌, ◌+◌, ◌*◌, ◌<◌, ◌≤◌, Bool, true, false, List, [], ◌∷◌, ◌++◌, length, drop, refl, sym, ◌∙◌, ap, arith, subst, Some, filter_map, flat_map, append_assoc}
+use Rattle.std.specs.Prelude.{slice_get, slice_index_or, if◌then◌else◌}
+use Rattle.std.specs.List.{AllByRecursion as Every}
+use Rattle.std.specs.Option.{option_map_or}
 use Rattle.std.proofs.lemmas.Bool.Decides.{nat_tests}
+use Rattle.std.proofs.lemmas.List.{append-nil}
 use Rattle.pre_script.specs.declared.scripts.SendLine.{SendLine}
-use Rattle.pre_trace.specs.Scenario.{Scenario, latency, send, no_send}
+use Rattle.pre_trace.specs.Scenario.{Scenario, arc, no_arc, send, no_send}
 use Rattle.pre_trace.specs.History.{Arrive, History}
-use Rattle.pre_trace.specs.Selected.{is_frame_result}
 use Rattle.pre_trace.specs.Queries.{Arrivals}
-use Rattle.pre_trace.specs.Comings.{Coming, below, frame_at, next_arc, relayed, sends_from, Comings, entry_event, EntriesOf}
-use Rattle.pre_sim.specs.Reach.{CanRun}
-use Rattle.pre_sim.specs.Sends.{sent_frame}
-use Rattle.pre_sim.proofs.Direct.{no_next}
+use Rattle.pre_trace.specs.Ordered.{IsOrdered}
+use Rattle.pre_trace.specs.Comings.{Coming, below, relayed, sends_from, Comings}
+use Rattle.pre_sim.specs.declared.lanes.Lane.{Lane}
+use Rattle.pre_sim.specs.Stands.{LanesStand}
+use Rattle.pre_sim.specs.Sends.{inside_at, due_at, dues, sent_frame, sent_frames}
+use Rattle.pre_sim.proofs.Lists.{there}
+use Rattle.pre_sim.proofs.Inside.{arrivals_rise, relayed_are}
 
 is_eq : (m n : ℕ) → m ≡ n → (m == n) ≡ true
 is_eq m n e = grind (arith, nat_tests)
@@ -18,30 +23,49 @@ is_eq m n e = grind (arith, nat_tests)
 not_eq : (m n : ℕ) → m ≢ n → (m == n) ≡ false
 not_eq m n other = grind (arith, nat_tests)
 
--- ---- nothing is relayed
+-- ---- what bridges hand on
 
-module _ (w : Scenario) (can : CanRun w.net w.streams w.script) (h : History) (t : ℕ) where
-  not_relayed : (a : ℕ) (x : Arrive) → relayed w h t a x ≡ None
-  not_relayed a x = go (is_frame_result x.result && (x.tick + latency w a == t)) (frame_at h a x.ord)
-    where
-      onward : ℕ → ℕ → Coming
-      onward f b = record { arc = b; frame = f }
+flat_then : {X Y : Type 0} (f : X → List Y) (xs ys : List X) → flat_map f (xs ++ ys) ≡ flat_map f xs ++ flat_map f ys
+flat_then f [] ys = refl
+flat_then f (x ∷ xs) ys = ap (λ zs. f x ++ zs) (flat_then f xs ys) ∙ sym (append_assoc (f x) (flat_map f xs) (flat_map f ys))
 
-      go : (b : Bool) (o : Option ℕ) → (if b then option_and_then (λ f. option_map (onward f) (next_arc w a f)) o else None) ≡ None
-      go true None = refl
-      go true (Some f) = ap (λ o. option_map (onward f) o) (no_next w can a f)
-      go false o = refl
+-- those of one more arc
+pub dues_more : (t : ℕ) (lanes : List Lane) (n : ℕ) → dues t lanes (n + 1) ≡ dues t lanes n ++ due_at t (inside_at lanes n)
+dues_more t lanes n =
+    let same : n + 1 ≡ suc n = omega arith in
+    ap (dues t lanes) same ∙ (flat_then (λ a. due_at t (inside_at lanes a)) (below n) (n ∷ []) ∙ ap (λ xs. dues t lanes n ++ xs) (append-nil (due_at t (inside_at lanes n))))
 
-  none_relayed : (a : ℕ) (xs : List Arrive) → filter_map (relayed w h t a) xs ≡ []
-  none_relayed a [] = refl
-  none_relayed a (x ∷ xs) = rw (not_relayed a x) (none_relayed a xs)
+-- those of the rest
+pub dues_rest : (t : ℕ) (lanes : List Lane) (n k : ℕ) → (rest : List Coming) × (dues t lanes (n + k) ≡ dues t lanes n ++ rest)
+dues_rest t lanes n zero = let same : n + 0 ≡ n = omega arith in ([], ap (dues t lanes) same ∙ sym (append-nil (dues t lanes n)))
+dues_rest t lanes n (suc k) =
+    let before = dues_rest t lanes n k in
+    let next : n + suc k ≡ n + k + 1 = omega arith in (
+      before.0 ++ due_at t (inside_at lanes (n + k)),
+      ap (dues t lanes) next ∙ (dues_more t lanes (n + k) ∙ (ap (λ xs. xs ++ due_at t (inside_at lanes (n + k))) before.1 ∙ append_assoc (dues t lanes n) before.0 (due_at t (inside_at lanes (n + k))))),
+    )
 
-  none_from : (arcs : List ℕ) → flat_map (λ a. filter_map (relayed w h t a) (Arrivals h a)) arcs ≡ []
-  none_from [] = refl
-  none_from (a ∷ arcs) = rw (none_relayed a (Arrivals h a)) (none_from arcs)
+-- where the bridges hold the same, they hand on the same
+pub same_dues : (t : ℕ) (old new : List Lane) (a : ℕ) → inside_at new a ≡ inside_at old a → due_at t (inside_at new a) ≡ due_at t (inside_at old a)
+same_dues t old new a is = ap (due_at t) is
 
-  pub comings_are : Comings w h t ≡ sends_from w t 0 w.script.sends
-  comings_are = ap (λ cs. cs ++ sends_from w t 0 w.script.sends) (none_from (below (length w.net.arcs)))
+module _ (w : Scenario) (h : History) (t : ℕ) (lanes : List Lane) (many : length lanes ≡ length w.net.arcs) (stand : LanesStand w h t lanes)
+    (order : (a : ℕ) → a < length w.net.arcs → IsOrdered w h a) (early : (a : ℕ) → a < length w.net.arcs → Every (λ (x : Arrive). x.tick < t + 1) (Arrivals h a)) where
+  relayed_of : (a : ℕ) → a < length w.net.arcs → filter_map (relayed w h t a) (Arrivals h a) ≡ due_at t (inside_at lanes a)
+  relayed_of a lt =
+      let lane = there lanes a (omega (arith, lt, many)) in
+      let rules = w.net.rules.each_arc a no_arc lt in
+      let here : inside_at lanes a ≡ lane.0.inside.items = ap (λ o. option_map_or (λ (l : Lane). l.inside.items) o []) lane.1 in
+      relayed_are w h t a lane.0.inside.items (arrivals_rise w h (t + 1) a (order a lt) rules.cost.0 (early a lt)) (stand a lane.0 lane.1).inside ∙ ap (due_at t) (sym here)
+
+  relays_are : (n : ℕ) → n ≤ length w.net.arcs → flat_map (λ a. filter_map (relayed w h t a) (Arrivals h a)) (below n) ≡ dues t lanes n
+  relays_are zero le = refl
+  relays_are (suc n) le =
+      flat_then (λ a. filter_map (relayed w h t a) (Arrivals h a)) (below n) (n ∷ [])
+      ∙ ((λ i. relays_are n (omega (arith, le)) i ++ (relayed_of n (omega (arith, le)) i ++ [])) ∙ sym (flat_then (λ a. due_at t (inside_at lanes a)) (below n) (n ∷ [])))
+
+  pub comings_are : Comings w h t ≡ dues t lanes (length w.net.arcs) ++ sends_from w t 0 w.script.sends
+  comings_are = ap (λ cs. cs ++ sends_from w t 0 w.script.sends) (relays_are (length w.net.arcs) (omega arith))
 
 -- ---- the sends of the tick
 
@@ -87,11 +111,13 @@ module _ (w : Scenario) (t : ℕ) where
       rw test (none_left (f + 1) zero sends (λ k le lt. later (suc k) (omega arith) (omega (arith, lt))))
   none_left f (suc n) (s ∷ sends) later = none_left f n sends (λ k le lt. later (suc k) (omega (arith, le)) (omega (arith, lt)))
 
-  -- what becomes of the next one, and of those behind it
-  pub one_entry : (g es : History) (k : ℕ) → k < length w.script.sends → (send w k).send.tick.0 ≡ t → es ≡ entry_event w t g (sent_frame w k) ∷ []
-      → EntriesOf w t g (sends_from w t k (drop k w.script.sends)) ≡ es ++ EntriesOf w t (g ++ es) (sends_from w t (k + 1) (drop (k + 1) w.script.sends))
-  one_entry g es k lt now told =
-      let rest = sends_from w t (k + 1) (drop (k + 1) w.script.sends) in
-      let event = entry_event w t g (sent_frame w k) in
-      ap (EntriesOf w t g) (next_send k lt now)
-      ∙ subst (λ (fs : History). event ∷ EntriesOf w t (g ++ event ∷ []) rest ≡ fs ++ EntriesOf w t (g ++ fs) rest) (sym told) refl
+  -- the next so many of them
+  pub next_sends : (from n : ℕ) → from + n ≤ length w.script.sends → ((k : ℕ) → from ≤ k → k < from + n → (send w k).send.tick.0 ≡ t)
+      → sends_from w t from (drop from w.script.sends) ≡ sent_frames w from n ++ sends_from w t (from + n) (drop (from + n) w.script.sends)
+  next_sends from zero le now = ap (λ m. sends_from w t m (drop m w.script.sends)) (omega arith)
+  next_sends from (suc n) le now =
+      let before = next_sends from n (omega (arith, le)) (λ k low high. now k low (omega (arith, high))) in
+      let next = next_send (from + n) (omega (arith, le)) (now (from + n) (omega arith) (omega arith)) in
+      let place : from + n + 1 ≡ from + suc n = omega arith in
+      before ∙ (ap (λ cs. sent_frames w from n ++ cs) (next ∙ ap (λ m. sent_frame w (from + n) ∷ sends_from w t m (drop m w.script.sends)) place)
+      ∙ sym (append_assoc (sent_frames w from n) (sent_frame w (from + n) ∷ []) (sends_from w t (from + suc n) (drop (from + suc n) w.script.sends))))

@@ -26,3 +26,10 @@ pub mod EntriesOne
 pub mod EntriesSends
 pub mod EntriesEarly
 pub mod EntriesRun
+pub mod Inside
+pub mod EntriesNew
+pub mod EntriesParts
+pub mod Settling
+pub mod EntriesRelay
+pub mod EntriesRelays
+pub mod EntriesCount

@@ -15,7 +15,7 @@ use Rattle.pre_sim.specs.declared.lanes.Lane.{Lane}
 use Rattle.pre_sim.specs.Parts.{LegalAt, IsFront, IsOn, LanePart, LaneFront, LanesPart, LanesFront}
 use Rattle.pre_sim.specs.Stands.{StillWaiting, LaneStands, LanesStand}
 use Rattle.pre_sim.proofs.Lists.{every_weaker, count_by-append}
-use Rattle.pre_sim.proofs.EndParts.{moved, still_same}
+use Rattle.pre_sim.proofs.EndParts.{moved, still_same, inside_same}
 
 none_selected : {X Y : Type 0} (sel : X → Option Y) (xs : List X) → Every (λ x. sel x ≡ None) xs → filter_map sel xs ≡ []
 none_selected sel [] p = refl
@@ -78,14 +78,17 @@ module _ (a b : ℕ) (other : b ≢ a) where
       filter_map-append sel h es ∙ (ap (λ xs. filter_map sel h ++ xs) (none_selected sel es (every_weaker (IsOn a) (λ e. sel e ≡ None) none es on)) ∙ append-nil (filter_map sel h))
 
   -- the lanes of the other arcs stand
-  pub other_stands : (w : Scenario) (h es : History) (sent : ℕ) (lane : Lane) → Every (IsOn a) es → LaneStands w h b sent lane → LaneStands w (h ++ es) b sent lane
-  other_stands w h es sent lane on is =
+  pub other_stands : (w : Scenario) (h es : History) (t : ℕ) (lane : Lane) → Every (IsOn a) es → LaneStands w h b t lane → LaneStands w (h ++ es) b t lane
+  other_stands w h es t lane on is =
       let begins : Begins (h ++ es) b ≡ Begins h b = unselected (begin_on b) not_begin h es on in
       let ends : Ends (h ++ es) b ≡ Ends h b = unselected (ended_on b) not_end h es on in
       let arrivals : Arrivals (h ++ es) b ≡ Arrivals h b = unselected (arrive_on b) not_arrival h es on in
-      moved w b (Begins h b) (Begins (h ++ es) b) (Ends h b) (Ends (h ++ es) b) (length (Arrivals h b)) (length (Arrivals (h ++ es) b)) (StillWaiting h b) (StillWaiting (h ++ es) b) sent
-      lane.waiting.items lane.sending lane.free_from.0 lane.begun lane.flying.items (sym begins) (sym ends) (ap length (sym arrivals))
-      (still_same h es b begins (λ p. unselected (entry_on b p) (not_entry p) h es on)) is
+      record {
+        on = moved w b (Begins h b) (Begins (h ++ es) b) (Ends h b) (Ends (h ++ es) b) (length (Arrivals h b)) (length (Arrivals (h ++ es) b)) (StillWaiting h b) (StillWaiting (h ++ es) b)
+            lane.waiting.items lane.sending lane.free_from.0 lane.begun lane.flying.items (sym begins) (sym ends) (ap length (sym arrivals))
+            (still_same h es b begins (λ p. unselected (entry_on b p) (not_entry p) h es on)) is.on;
+        inside = inside_same w h es b t lane.inside.items begins arrivals is.inside;
+      }
 
 -- ---- one arc after another
 
@@ -106,15 +109,15 @@ module _ (net : Network) (t k n m d : ℕ) (old mid : List Lane) (lane new : Lan
   lane_more part = record {
     deliveries = ap length (filter_map-append delivery_of es fs) ∙ (length-append (Deliveries es) (Deliveries fs) ∙ cong_plus so_far.deliveries part.deliveries);
     drops = count_by-append is_dropped es fs ∙ cong_plus so_far.drops part.drops;
-    legal = λ w same can h sent legal stand.
-        let before = so_far.legal w same can h sent legal stand in
-        let now = part.legal w same can (h ++ es) sent before.0 (before.1 n lane here) in
+    legal = λ w same can h legal stand.
+        let before = so_far.legal w same can h legal stand in
+        let now = part.legal w same can (h ++ es) before.0 (before.1 n lane here) in
         let legal' : LegalAt w t (k + (n + 1)) ((h ++ es) ++ fs) = subst (λ m. LegalAt w t m ((h ++ es) ++ fs)) (same_place k n) now.0 in
-        let each : LanesStand w ((h ++ es) ++ fs) sent (set mid n new) = λ a l at. elim (cases_eq a n) [
-          | inl is ↦ subst (λ (x : Lane). LaneStands w ((h ++ es) ++ fs) a sent x) (set_here mid n new l (subst (λ m. slice_get (set mid n new) m ≡ Some l) is at)) (subst (λ m. LaneStands w ((h ++ es) ++ fs) m sent new) (sym is) now.1)
-          | inr other ↦ other_stands n a other w (h ++ es) fs sent l part.arc (before.1 a l (set_there mid n a new l other at))
+        let each : LanesStand w ((h ++ es) ++ fs) t (set mid n new) = λ a l at. elim (cases_eq a n) [
+          | inl is ↦ subst (λ (x : Lane). LaneStands w ((h ++ es) ++ fs) a t x) (set_here mid n new l (subst (λ m. slice_get (set mid n new) m ≡ Some l) is at)) (subst (λ m. LaneStands w ((h ++ es) ++ fs) m t new) (sym is) now.1)
+          | inr other ↦ other_stands n a other w (h ++ es) fs t l part.arc (before.1 a l (set_there mid n a new l other at))
         ] in
-        subst (λ g. LegalAt w t (k + (n + 1)) g × LanesStand w g sent (set mid n new)) (append_assoc h es fs) (legal', each);
+        subst (λ g. LegalAt w t (k + (n + 1)) g × LanesStand w g t (set mid n new)) (append_assoc h es fs) (legal', each);
   }
     where
       same_place : (x y : ℕ) → x + y + 1 ≡ x + (y + 1)
@@ -124,17 +127,17 @@ module _ (net : Network) (t k n m d : ℕ) (old mid : List Lane) (lane new : Lan
       cong_plus p q = omega (arith, p, q)
 
   pub front_more : LaneFront net t (k + n) n lane fs → LanesFront net t k old (es ++ fs)
-  front_more front w same can h sent legal stand =
-      let before = so_far.legal w same can h sent legal stand in
-      subst (IsFront w) (append_assoc h es fs) (front w same can (h ++ es) sent before.0 (before.1 n lane here))
+  front_more front w same can h legal stand =
+      let before = so_far.legal w same can h legal stand in
+      subst (IsFront w) (append_assoc h es fs) (front w same can (h ++ es) before.0 (before.1 n lane here))
 
 -- nothing yet
 pub lanes_begin : (net : Network) (t k : ℕ) (lanes : List Lane) → LanesPart net t k 0 0 lanes lanes []
 lanes_begin net t k lanes = record {
   deliveries = refl;
   drops = refl;
-  legal = λ w same can h sent legal stand.
-      subst (λ g. LegalAt w t (k + 0) g × LanesStand w g sent lanes) (sym (append-nil h)) (subst (λ m. LegalAt w t m h) (plus_none k) legal, stand);
+  legal = λ w same can h legal stand.
+      subst (λ g. LegalAt w t (k + 0) g × LanesStand w g t lanes) (sym (append-nil h)) (subst (λ m. LegalAt w t m h) (plus_none k) legal, stand);
 }
   where
     plus_none : (x : ℕ) → x ≡ x + 0

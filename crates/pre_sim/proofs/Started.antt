@@ -1,5 +1,5 @@
 -- The lane after a frame began.
-use Rattle.std.proofs.Common.{ℕ, zero, suc, ◌≡◌, ◌==◌, ◌&&◌, ◌||◌, ◌+◌, ◌*◌, ◌<◌, ◌≤◌, not, Bool, true, false, List, [], ◌∷◌, ◌++◌, length, drop, refl, sym, ◌∙◌, ap, arith, subst, Some, None, map, filter, length-append}
+use Rattle.std.proofs.Common.{ℕ, zero, suc, ◌≡◌, ◌≢◌, ◌==◌, ◌&&◌, ◌||◌, ◌+◌, ◌*◌, ◌<◌, ◌≤◌, not, Bool, true, false, List, [], ◌∷◌, ◌++◌, length, drop, refl, sym, ◌∙◌, ap, arith, subst, Some, None, map, filter, length-append}
 use Rattle.std.specs.Prelude.{slice_get, if◌then◌else◌}
 use Rattle.std.specs.List.{list_any, remove, AllByRecursion as Every}
 use Rattle.std.proofs.Math.Path.{fun_ext}
@@ -16,14 +16,11 @@ use Rattle.pre_trace.specs.Selected.{RingEntry, what_is, begin_on, entry_on}
 use Rattle.pre_trace.specs.Queries.{Begins, Entries}
 use Rattle.pre_sim.specs.declared.plans.Frame.{Frame}
 use Rattle.pre_sim.specs.declared.lanes.Flight.{Flight}
-use Rattle.pre_sim.specs.Stands.{IsFrameOf, AreFlying, IsWholeBegin, IsLane, InOrder, numbers_of, has_begun, StillWaiting}
+use Rattle.pre_sim.specs.Stands.{IsFrameOf, AreFlying, IsWholeBegin, GoesWhole, IsLane, AreApart, numbers_of, has_begun, StillWaiting}
 use Rattle.pre_sim.proofs.Lists.{at_last, at_front, every-append, every_at}
 
-no_eq : (m n : ℕ) → m < n → (m == n) ≡ false
-no_eq m n lt = grind (arith, nat_tests)
-
-other_eq : (m n : ℕ) → n < m → (m == n) ≡ false
-other_eq m n lt = grind (arith, nat_tests)
+not_eq : (m n : ℕ) → m ≢ n → (m == n) ≡ false
+not_eq m n other = grind (arith, nat_tests)
 
 is_eq : (m n : ℕ) → m ≡ n → (m == n) ≡ true
 is_eq m n e = grind (arith, nat_tests)
@@ -33,20 +30,20 @@ is_eq m n e = grind (arith, nat_tests)
 abbrev pub but : ℕ → List Frame → List Frame
 but k frames = filter (λ g. not (k == g.number.0)) frames
 
-but_none : (k : ℕ) (fs : List Frame) → Every (λ (g : Frame). k < g.number.0) fs → but k fs ≡ fs
+but_none : (k : ℕ) (fs : List Frame) → Every (λ (g : Frame). k ≢ g.number.0) fs → but k fs ≡ fs
 but_none k [] all = refl
-but_none k (g ∷ fs) (here, more) = rw (no_eq k g.number.0 here) (ap (λ xs. g ∷ xs) (but_none k fs more))
+but_none k (g ∷ fs) (here, more) = rw (not_eq k g.number.0 here) (ap (λ xs. g ∷ xs) (but_none k fs more))
 
 -- taking out a frame is leaving out its number
-pub removed : (fs : List Frame) (i : ℕ) (f : Frame) → InOrder fs → slice_get fs i ≡ Some f → remove fs i ≡ but f.number.0 fs
-removed [] i f order at = absurd (cc at)
-removed (g ∷ fs) zero f (first, order) at =
+pub removed : (fs : List Frame) (i : ℕ) (f : Frame) → AreApart fs → slice_get fs i ≡ Some f → remove fs i ≡ but f.number.0 fs
+removed [] i f apart at = absurd (cc at)
+removed (g ∷ fs) zero f (first, apart) at =
     let same : g ≡ f = cc at in
     let test : (f.number.0 == g.number.0) ≡ true = is_eq f.number.0 g.number.0 (ap (λ (x : Frame). x.number.0) (sym same)) in
-    rw test (sym (but_none f.number.0 fs (subst (λ (x : Frame). Every (λ (y : Frame). x.number.0 < y.number.0) fs) same first)))
-removed (g ∷ fs) (suc i) f (first, order) at =
-    let before : g.number.0 < f.number.0 = every_at (λ (y : Frame). g.number.0 < y.number.0) fs i f first at in
-    rw (other_eq f.number.0 g.number.0 before) (ap (λ xs. g ∷ xs) (removed fs i f order at))
+    rw test (sym (but_none f.number.0 fs (subst (λ (x : Frame). Every (λ (y : Frame). x.number.0 ≢ y.number.0) fs) same first)))
+removed (g ∷ fs) (suc i) f (first, apart) at =
+    let other : g.number.0 ≢ f.number.0 = every_at (λ (y : Frame). g.number.0 ≢ y.number.0) fs i f first at in
+    rw (not_eq f.number.0 g.number.0 (λ e. other (sym e))) (ap (λ xs. g ∷ xs) (removed fs i f apart at))
 
 pub every_but : (P : Frame → Type 0) (k : ℕ) (fs : List Frame) → Every P fs → Every P (but k fs)
 every_but P k [] all = tt
@@ -56,13 +53,13 @@ every_but P k (g ∷ fs) (here, more) = go (k == g.number.0) (every_but P k fs m
     go true rest = rest
     go false rest = (here, rest)
 
-pub order_but : (k : ℕ) (fs : List Frame) → InOrder fs → InOrder (but k fs)
-order_but k [] order = tt
-order_but k (g ∷ fs) (first, order) = go (k == g.number.0) (order_but k fs order)
+pub apart_but : (k : ℕ) (fs : List Frame) → AreApart fs → AreApart (but k fs)
+apart_but k [] apart = tt
+apart_but k (g ∷ fs) (first, apart) = go (k == g.number.0) (apart_but k fs apart)
   where
-    go : (b : Bool) → InOrder (but k fs) → InOrder (if not b then g ∷ but k fs else but k fs)
+    go : (b : Bool) → AreApart (but k fs) → AreApart (if not b then g ∷ but k fs else but k fs)
     go true rest = rest
-    go false rest = (every_but (λ y. g.number.0 < y.number.0) k fs first, rest)
+    go false rest = (every_but (λ y. g.number.0 ≢ y.number.0) k fs first, rest)
 
 pub numbers_but : (p k : ℕ) (fs : List Frame) → numbers_of p (but k fs) ≡ filter (λ n. not (k == n)) (numbers_of p fs)
 numbers_but p k [] = refl
@@ -134,12 +131,12 @@ flying_on w a begins more (f ∷ fs) [] all = absurd all
 flying_on w a begins more (f ∷ fs) (e ∷ es) (is, all) =
     (record { begin = is.begin; begun = at_front begins more f.ord is.begin is.begun; ord = is.ord; carries = is.carries; due = is.due }, flying_on w a begins more fs es all)
 
-pub started_lane : (w : Scenario) (a t : ℕ) (begins : List Begin) (ends : List Ended) (arrived : ℕ) (waits : ℕ → List ℕ) (sent : ℕ) (waiting : List Frame) (free_from begun : ℕ) (flying : List Flight) (i : ℕ) (f : Frame) (b : Begin) (flight : Flight)
-    → IsLane w a begins ends arrived waits sent waiting None free_from begun flying → slice_get waiting i ≡ Some f
+pub started_lane : (w : Scenario) (a t : ℕ) (begins : List Begin) (ends : List Ended) (arrived : ℕ) (waits : ℕ → List ℕ) (waiting : List Frame) (free_from begun : ℕ) (flying : List Flight) (i : ℕ) (f : Frame) (b : Begin) (flight : Flight)
+    → IsLane w a begins ends arrived waits waiting None free_from begun flying → slice_get waiting i ≡ Some f
     → b.tick ≡ t → b.ord ≡ begun → b.kind ≡ kind.Express → b.what ≡ what.Frame f.number → b.from ≡ 0
     → flight.frame ≡ f → flight.ord ≡ begun → flight.due.0 ≡ t + (arc w a).cost * (f.size + 8)
-    → IsLane w a (begins ++ b ∷ []) ends arrived (λ p. filter (λ n. not (f.number.0 == n)) (waits p)) sent (but f.number.0 waiting) (Some flight) free_from (begun + 1) flying
-started_lane w a t begins ends arrived waits sent waiting free_from begun flying i f b flight is at tick ord express carried from its_frame its_ord its_due =
+    → IsLane w a (begins ++ b ∷ []) ends arrived (λ p. filter (λ n. not (f.number.0 == n)) (waits p)) (but f.number.0 waiting) (Some flight) free_from (begun + 1) flying
+started_lane w a t begins ends arrived waits waiting free_from begun flying i f b flight is at tick ord express carried from its_frame its_ord its_due =
     let long : length (begins ++ b ∷ []) ≡ length begins + 1 = length-append begins (b ∷ []) in
     let all : length begins ≡ length ends = is.sent_is in
     record {
@@ -153,7 +150,7 @@ started_lane w a t begins ends arrived waits sent waiting free_from begun flying
           kind = express;
           what = carried ∙ ap (λ (x : Frame). what.Frame x.number) (sym its_frame);
           from = from;
-          frame = subst (IsFrameOf w) (sym its_frame) (every_at (IsFrameOf w) waiting i f is.frames at);
+          frame = subst (IsFrameOf w a) (sym its_frame) (every_at (IsFrameOf w a) waiting i f is.frames at);
         };
         due = its_due ∙ (ap (λ n. n + (arc w a).cost * (f.size + 8)) (sym tick) ∙ ap (λ (x : Frame). b.tick + (arc w a).cost * (x.size + 8)) (sym its_frame));
       };
@@ -161,8 +158,8 @@ started_lane w a t begins ends arrived waits sent waiting free_from begun flying
       flies = flying_on w a begins (b ∷ []) flying (drop arrived ends) is.flies;
       waits_are = λ p. numbers_but p f.number.0 waiting ∙ ap (filter (λ n. not (f.number.0 == n))) (is.waits_are p);
       fits = λ p. fewer p f.number.0 waiting (capacity w a p) (is.fits p);
-      frames = every_but (IsFrameOf w) f.number.0 waiting is.frames;
-      order = order_but f.number.0 waiting is.order;
-      came = every_but (λ g. g.number.0 < sent) f.number.0 waiting is.came;
-      whole = every-append (IsWholeBegin sent) begins (b ∷ []) is.whole (record { kind = express; frame = f.number; what = carried; came = every_at (λ (g : Frame). g.number.0 < sent) waiting i f is.came at }, tt);
+      frames = every_but (IsFrameOf w a) f.number.0 waiting is.frames;
+      apart = apart_but f.number.0 waiting is.apart;
+      goes = every_but (GoesWhole w a) f.number.0 waiting is.goes;
+      whole = every-append IsWholeBegin begins (b ∷ []) is.whole (record { kind = express; frame = f.number; what = carried }, tt);
     }

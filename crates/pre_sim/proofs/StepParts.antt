@@ -15,7 +15,7 @@ use Rattle.pre_sim.specs.declared.runs.Step.TheVariants as step
 use Rattle.pre_sim.specs.declared.ticks.Progress.{Progress}
 use Rattle.pre_sim.specs.Reach.{CanRun}
 use Rattle.pre_sim.specs.Telling.{TellsAll}
-use Rattle.pre_sim.specs.Stands.{IsLane, IsIdle, StillWaiting, LaneStands, Reaches}
+use Rattle.pre_sim.specs.Stands.{IsLane, IsIdle, AreInside, StillWaiting, LaneStands, Reaches}
 use Rattle.pre_sim.specs.declared.halts.Halt.{Halt}
 use Rattle.pre_sim.specs.declared.halts.Halt.TheVariants.{Stopped, Memory}
 use Rattle.std.specs.Prelude.{Err}
@@ -77,10 +77,10 @@ module _ (s v u : SimView) (same : s ≡ v) (a b : Takes) (torn : Fails) (d : Ha
 -- ---- the beginning
 
 -- at the beginning all lanes are idle
-idle_stands : (w : Scenario) (a : ℕ) (lane : Lane) → IsIdle lane → LaneStands w [] a 0 lane
+idle_stands : (w : Scenario) (a t : ℕ) (lane : Lane) → IsIdle lane → LaneStands w [] a t lane
 unfolding StillWaiting
-idle_stands w a lane is =
-    let IsNew = IsLane w a [] [] 0 (λ p. []) 0 in
+idle_stands w a t lane is =
+    let IsNew = IsLane w a [] [] 0 (λ p. []) in
     let zero_ : IsNew [] None 0 0 [] = record {
       begun_is = refl;
       sent_is = refl;
@@ -89,21 +89,24 @@ idle_stands w a lane is =
       waits_are = λ p. refl;
       fits = λ p. omega arith;
       frames = tt;
-      order = tt;
-      came = tt;
+      apart = tt;
+      goes = tt;
       whole = tt;
     } in
     let one = subst (λ xs. IsNew xs None 0 0 []) (sym is.waiting) zero_ in
     let two = subst (λ o. IsNew lane.waiting.items o 0 0 []) (sym is.sending) one in
     let three = subst (λ n. IsNew lane.waiting.items lane.sending n 0 []) (sym is.free) two in
     let four = subst (λ n. IsNew lane.waiting.items lane.sending lane.free_from.0 n []) (sym is.begun) three in
-    subst (IsNew lane.waiting.items lane.sending lane.free_from.0 lane.begun) (sym is.flying) four
+    record {
+      on = subst (IsNew lane.waiting.items lane.sending lane.free_from.0 lane.begun) (sym is.flying) four;
+      inside = subst (AreInside w a [] [] t) (sym is.inside) (record { gone = 0; few = omega arith; past = tt; later = tt; are = refl; frames = tt });
+    }
 
 pub has_told_nothing : NoAlias → (s : SimView) → CanRun s.run.net s.run.streams s.run.script → s.next ≡ 0 → s.progress.sent ≡ 0 → s.progress.delivered ≡ 0 → s.progress.dropped ≡ 0 → Every IsIdle s.progress.lanes.items → HasTold s []
 has_told_nothing no_alias s can next sent delivered dropped idle =
     has_told no_alias s [] can (record {
       legal = subst (λ n. LegalUpTo s.run n []) (sym (start next)) refl;
-      lanes = λ a lane at. subst (λ n. LaneStands s.run [] a n lane) (sym sent) (idle_stands s.run a lane (every_at IsIdle s.progress.lanes.items a lane idle at));
+      lanes = λ a lane at. idle_stands s.run a s.next lane (every_at IsIdle s.progress.lanes.items a lane idle at);
       sends = record {
         within = omega (arith, sent);
         past = λ k lt. absurd (omega (arith, lt, sent));

@@ -14,10 +14,10 @@ use Rattle.pre_trace.specs.Written.{AreWritten-append}
 use Rattle.pre_sim.specs.Told.{tells_nothing, tells_then}
 use Rattle.pre_sim.specs.Parts.{TellsOne, TellsPart, count_of}
 
-abbrev Takes : Type 1
+abbrev pub Takes : Type 1
 Takes = List ℕ → History → Type 0
 
-abbrev Fails : Type 1
+abbrev pub Fails : Type 1
 Fails = List ℕ → History → PlainEvent → Type 0
 
 -- nothing

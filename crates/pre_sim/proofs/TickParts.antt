@@ -14,7 +14,10 @@ use Rattle.pre_trace.specs.Moments.{Phase, moments}
 use Rattle.pre_trace.specs.History.{PlainEvent, History, Delivery}
 use Rattle.pre_trace.specs.Selected.{delivery_of, is_dropped}
 use Rattle.pre_trace.specs.Queries.{Arrivals, Deliveries}
-use Rattle.pre_trace.specs.Placed.{number}
+use Rattle.pre_trace.specs.Placed.{number, AllBefore}
+use Rattle.pre_trace.specs.Ordered.{IsOrdered}
+use Rattle.pre_sim.specs.Sends.{AreSettled}
+use Rattle.pre_sim.proofs.Settling.{lanes_settle}
 use Rattle.pre_trace.specs.Deliveries.{DeliversOnce}
 use Rattle.pre_trace.specs.Legal.{LegalUpTo, Legal, Alias, CountLines, closing, last_moment}
 use Rattle.pre_sim.specs.declared.lanes.Lane.{Lane}
@@ -52,6 +55,12 @@ few_delivered n ds known pairs =
     let few = length-le_from_distinct_below (map (λ (d : Delivery). d.frame) ds) n (IsDistinct-from_AllPairs Decides-eqb (map (λ (d : Delivery). d.frame) ds) (apart ds pairs)) (below_all n ds (recursion_from_All (λ (d : Delivery). d.frame < n) ds known)) in
     omega (arith, few, long)
 
+abbrev pub Orders : Type 0
+Orders = (w : Scenario) (n : ℕ) (h : History) (a : ℕ) → a < length w.net.arcs → LegalUpTo w n h → IsOrdered w h a
+
+abbrev pub Befores : Type 0
+Befores = (w : Scenario) (n : ℕ) (h : History) → LegalUpTo w n h → AllBefore (length w.net.arcs) n h
+
 module _ (w : Scenario) (can : CanRun w.net w.streams w.script) where
   abbrev A : ℕ
   A = length w.net.arcs
@@ -61,7 +70,7 @@ module _ (w : Scenario) (can : CanRun w.net w.streams w.script) where
   after_sets t h legal = subst (LegalAt w t 1) (append-nil h) (one_more w t 0 Phase.sets h [] (omega arith) refl (calm_sets w can h t) legal)
 
   -- nothing expires
-  expired : (t n : ℕ) (h : History) → n ≤ A → LegalAt w t (1 + 2 * A) h → LegalAt w t (1 + 2 * A + n) h
+  pub expired : (t n : ℕ) (h : History) → n ≤ A → LegalAt w t (1 + 2 * A) h → LegalAt w t (1 + 2 * A + n) h
   expired t zero h le legal = subst (λ m. LegalAt w t m h) (plus_none (1 + 2 * A)) legal
     where
       plus_none : (x : ℕ) → x ≡ x + 0
@@ -75,17 +84,17 @@ module _ (w : Scenario) (can : CanRun w.net w.streams w.script) where
       next x y = omega arith
 
   module _ (t d : ℕ) (old new : Progress) (a b c e : List Lane) (es fs : History) (is_a : a ≡ old.lanes.items) (first : LanesPart w.net t 1 A 0 a b es) (is_c : c ≡ b) where
-    first_done : (h : History) → Reaches w t 0 t h old → LegalAt w t (1 + A) (h ++ es) × LanesStand w (h ++ es) old.sent c
+    first_done : (h : History) → Reaches w t 0 t h old → LegalAt w t (1 + A) (h ++ es) × LanesStand w (h ++ es) t c
     first_done h r =
-        let done = first.legal w refl can h old.sent (after_sets t h r.legal) (subst (LanesStand w h old.sent) (sym is_a) r.lanes) in
-        (done.0, subst (LanesStand w (h ++ es) old.sent) (sym is_c) done.1)
+        let done = first.legal w refl can h (after_sets t h r.legal) (subst (LanesStand w h t) (sym is_a) r.lanes) in
+        (done.0, subst (LanesStand w (h ++ es) t) (sym is_c) done.1)
 
     -- the ends and arrivals of a tick
     pub landed : LanesPart w.net t (1 + A) A d c e fs → new.lanes.items ≡ e → new.sent ≡ old.sent → new.dropped ≡ old.dropped → new.delivered ≡ min (old.delivered + d) (2 ^ 64 - 1)
         → ((n : ℕ) (h : History) → LegalUpTo w n h → DeliversOnce w h) → Carries w t 0 t t (1 + 3 * A) t old new (es ++ fs)
     landed second is_new sent dropped delivered once h r =
         let one = first_done h r in
-        let two = second.legal w refl can (h ++ es) old.sent one.0 one.1 in
+        let two = second.legal w refl can (h ++ es) one.0 one.1 in
         let legal' : LegalAt w t (1 + 2 * A) ((h ++ es) ++ fs) = subst (λ m. LegalAt w t m ((h ++ es) ++ fs)) (omega arith) two.0 in
         let legal : LegalAt w t (1 + 3 * A) ((h ++ es) ++ fs) = subst (λ m. LegalAt w t m ((h ++ es) ++ fs)) (omega arith) (expired t A ((h ++ es) ++ fs) (omega arith) legal') in
         let all : length (Deliveries ((h ++ es) ++ fs)) ≡ length (Deliveries h) + 0 + d
@@ -98,7 +107,7 @@ module _ (w : Scenario) (can : CanRun w.net w.streams w.script) where
         let long : length w.script.sends ≤ 100000 = can.script_fits.sends_count in
         subst (λ g. Reaches w t (1 + 3 * A) t g new) (append_assoc h es fs) (record {
           legal = legal;
-          lanes = subst (λ n. LanesStand w ((h ++ es) ++ fs) n new.lanes.items) (sym sent) (subst (LanesStand w ((h ++ es) ++ fs) old.sent) (sym is_new) two.1);
+          lanes = subst (LanesStand w ((h ++ es) ++ fs) t) (sym is_new) two.1;
           sends = subst (AreSentBefore w t) (sym sent) r.sends;
           deliveries = omega (arith, all, few, long, delivered, r.deliveries);
           drops = dropped ∙ (r.drops ∙ omega (arith, drops));
@@ -109,23 +118,23 @@ module _ (w : Scenario) (can : CanRun w.net w.streams w.script) where
 
     -- it ended early
     pub landed_front : LanesFront w.net t (1 + A) c fs → CarriesFront w t 0 t old (es ++ fs)
-    landed_front front h r = let one = first_done h r in subst (IsFront w) (append_assoc h es fs) (front w refl can (h ++ es) old.sent one.0 one.1)
+    landed_front front h r = let one = first_done h r in subst (IsFront w) (append_assoc h es fs) (front w refl can (h ++ es) one.0 one.1)
 
   pub ends_front : (t : ℕ) (old : Progress) (a : List Lane) (es : History) → a ≡ old.lanes.items → LanesFront w.net t 1 a es → CarriesFront w t 0 t old es
-  ends_front t old a es is_a front h r = front w refl can h old.sent (after_sets t h r.legal) (subst (LanesStand w h old.sent) (sym is_a) r.lanes)
+  ends_front t old a es is_a front h r = front w refl can h (after_sets t h r.legal) (subst (LanesStand w h t) (sym is_a) r.lanes)
 
   module _ (t : ℕ) (old mid : Progress) (c e : List Lane) (es fs : History) (first : EntriesPart w t old mid es) (is_c : c ≡ mid.lanes.items) where
-    entered : (h : History) → Reaches w t (1 + 3 * A) t h old → LegalAt w t (2 + 3 * A) (h ++ es) × LanesStand w (h ++ es) mid.sent c × AreSentBefore w (t + 1) mid.sent
+    entered : (h : History) → Reaches w t (1 + 3 * A) t h old → LegalAt w t (2 + 3 * A) (h ++ es) × LanesStand w (h ++ es) t c × AreSentBefore w (t + 1) mid.sent
     entered h r =
         let done = first.legal h r.legal r.lanes r.sends in
-        (done.0, subst (LanesStand w (h ++ es) mid.sent) (sym is_c) done.1, done.2)
+        (done.0, subst (LanesStand w (h ++ es) t) (sym is_c) done.1, done.2)
 
     -- the entries and starts of a tick
-    pub left : (new : Progress) → LanesPart w.net t (2 + 3 * A) A 0 c e fs → new.lanes.items ≡ e → new.sent ≡ mid.sent → new.dropped ≡ mid.dropped → new.delivered ≡ mid.delivered
+    pub left : (new : Progress) → LanesPart w.net t (2 + 3 * A) A 0 c e fs → length e ≡ A → AreSettled t e new.lanes.items → Orders → Befores → new.sent ≡ mid.sent → new.dropped ≡ mid.dropped → new.delivered ≡ mid.delivered
         → Carries w t (1 + 3 * A) t (t + 1) 0 (t + 1) old new (es ++ fs)
-    left new second is_new sent dropped delivered h r =
+    left new second many settled order before sent dropped delivered h r =
         let one = entered h r in
-        let two = second.legal w refl can (h ++ es) mid.sent one.0 one.1 in
+        let two = second.legal w refl can (h ++ es) one.0 one.1 in
         let legal : LegalAt w (t + 1) 0 ((h ++ es) ++ fs) = subst (λ m. LegalUpTo w m ((h ++ es) ++ fs)) (omega arith) two.0 in
         let all : length (Deliveries ((h ++ es) ++ fs)) ≡ length (Deliveries h) + 0 + 0
         = ap length (filter_map-append delivery_of (h ++ es) fs) ∙ (length-append (Deliveries (h ++ es)) (Deliveries fs)
@@ -134,7 +143,7 @@ module _ (w : Scenario) (can : CanRun w.net w.streams w.script) where
         = count_by-append is_dropped (h ++ es) fs ∙ adds (count_by-append is_dropped h es) second.drops in
         subst (λ g. Reaches w (t + 1) 0 (t + 1) g new) (append_assoc h es fs) (record {
           legal = legal;
-          lanes = subst (λ n. LanesStand w ((h ++ es) ++ fs) n new.lanes.items) (sym sent) (subst (LanesStand w ((h ++ es) ++ fs) mid.sent) (sym is_new) two.1);
+          lanes = lanes_settle w t ((h ++ es) ++ fs) legal (λ a lt. order w (number A (t + 1) 0) ((h ++ es) ++ fs) a lt legal) (before w (number A (t + 1) 0) ((h ++ es) ++ fs) legal) e new.lanes.items many settled two.1;
           sends = subst (AreSentBefore w (t + 1)) (sym sent) one.2;
           deliveries = omega (arith, all, delivered, first.delivered, r.deliveries);
           drops = omega (arith, drops, dropped, first.drops, r.drops);
@@ -144,7 +153,7 @@ module _ (w : Scenario) (can : CanRun w.net w.streams w.script) where
         adds p q = omega (arith, p, q)
 
     pub left_front : LanesFront w.net t (2 + 3 * A) c fs → CarriesFront w t (1 + 3 * A) t old (es ++ fs)
-    left_front front h r = let one = entered h r in subst (IsFront w) (append_assoc h es fs) (front w refl can (h ++ es) mid.sent one.0 one.1)
+    left_front front h r = let one = entered h r in subst (IsFront w) (append_assoc h es fs) (front w refl can (h ++ es) one.0 one.1)
 
   pub entries_front : (t : ℕ) (old : Progress) (es : History) → EntriesFront w t old es → CarriesFront w t (1 + 3 * A) t old es
   entries_front t old es front h r = front h r.legal r.lanes r.sends

@@ -7,3 +7,4 @@ pub mod Stands
 pub mod Parts
 pub mod Spelled
 pub mod Sends
+pub mod Arriving

@@ -1,8 +1,8 @@
 -- What a part of a tick does: from a history that is legal before it to one that is legal after it.
-use Rattle.std.specs.Prelude.{ℕ, ◌+◌, ◌*◌, ◌≡◌, ◌<◌, ◌≤◌, ◌⊎◌, slice_index, slice_index_or, Bool, true, false, List, [], ◌∷◌, ◌++◌, length, count_by, cond, nat_le, Result, Ok, Err}
+use Rattle.std.specs.Prelude.{ℕ, ◌+◌, ◌*◌, ◌≡◌, ◌≢◌, ◌<◌, ◌≤◌, ◌⊎◌, slice_index, slice_index_or, Bool, true, false, List, [], ◌∷◌, ◌++◌, length, count_by, cond, nat_le, Result, Ok, Err}
 use Rattle.std.specs.List.{AllByRecursion as Every}
 use Rattle.pre_topo.specs.declared.network.Network.{Network}
-use Rattle.pre_trace.specs.Scenario.{Scenario, no_arc}
+use Rattle.pre_trace.specs.Scenario.{Scenario, no_arc, send}
 use Rattle.pre_trace.specs.Placed.{number}
 use Rattle.pre_trace.specs.History.{PlainEvent, History}
 use Rattle.pre_trace.specs.Written.{IsWritten, AreWritten}
@@ -18,6 +18,7 @@ use Rattle.pre_sim.specs.declared.lanes.Lane.{Lane}
 use Rattle.pre_sim.specs.Telling.{TellsAll}
 use Rattle.pre_sim.specs.Reach.{CanRun}
 use Rattle.pre_sim.specs.Stands.{LaneStands, LanesStand, AreSentBefore, Reaches, numbers_of}
+use Rattle.pre_sim.specs.Sends.{ComesPart, ComesFront, sent_frames}
 
 -- What was told, by how the part ended: a whole part, or the front of one, which ends with the event at which the
 -- watcher failed.
@@ -66,23 +67,23 @@ module _ (net : Network) (t k a delivered : ℕ) (old new : Lane) where
     pub arc : Every (IsOn a) es
     pub deliveries : length (Deliveries es) ≡ delivered
     pub drops : count_by is_dropped es ≡ 0
-    pub legal : (w : Scenario) → w.net ≡ net → CanRun w.net w.streams w.script → (h : History) (sent : ℕ) → LegalAt w t k h → LaneStands w h a sent old
-        → LegalAt w t (k + 1) (h ++ es) × LaneStands w (h ++ es) a sent new
+    pub legal : (w : Scenario) → w.net ≡ net → CanRun w.net w.streams w.script → (h : History) → LegalAt w t k h → LaneStands w h a t old
+        → LegalAt w t (k + 1) (h ++ es) × LaneStands w (h ++ es) a t new
 
 module _ (net : Network) (t k a : ℕ) (old : Lane) where
   abbrev pub LaneFront : History → Type 0
-  LaneFront es = (w : Scenario) → w.net ≡ net → CanRun w.net w.streams w.script → (h : History) (sent : ℕ) → LegalAt w t k h → LaneStands w h a sent old → IsFront w (h ++ es)
+  LaneFront es = (w : Scenario) → w.net ≡ net → CanRun w.net w.streams w.script → (h : History) → LegalAt w t k h → LaneStands w h a t old → IsFront w (h ++ es)
 
 -- ---- the parts of the first n arcs, from place k on
 
 pub record LanesPart (net : Network) (t k n delivered : ℕ) (old new : List Lane) (es : History) : Type 0 where
   pub deliveries : length (Deliveries es) ≡ delivered
   pub drops : count_by is_dropped es ≡ 0
-  pub legal : (w : Scenario) → w.net ≡ net → CanRun w.net w.streams w.script → (h : History) (sent : ℕ) → LegalAt w t k h → LanesStand w h sent old
-      → LegalAt w t (k + n) (h ++ es) × LanesStand w (h ++ es) sent new
+  pub legal : (w : Scenario) → w.net ≡ net → CanRun w.net w.streams w.script → (h : History) → LegalAt w t k h → LanesStand w h t old
+      → LegalAt w t (k + n) (h ++ es) × LanesStand w (h ++ es) t new
 
 abbrev pub LanesFront : (net : Network) (t k : ℕ) (old : List Lane) → History → Type 0
-LanesFront net t k old es = (w : Scenario) → w.net ≡ net → CanRun w.net w.streams w.script → (h : History) (sent : ℕ) → LegalAt w t k h → LanesStand w h sent old → IsFront w (h ++ es)
+LanesFront net t k old es = (w : Scenario) → w.net ≡ net → CanRun w.net w.streams w.script → (h : History) → LegalAt w t k h → LanesStand w h t old → IsFront w (h ++ es)
 
 -- ---- the entry of a frame, which is a part of the entries' moment
 
@@ -108,16 +109,34 @@ abbrev pub scenario_of : Plan → Scenario
 scenario_of plan = record { net = plan.net.now; streams = plan.streams.now; script = plan.script.now }
 
 module _ (w : Scenario) (t : ℕ) (old : Progress) where
-  -- the sends of the tick come to their rings, one after another
+  -- the next so many frames of the script are those of the tick, and come to their rings
+  pub record SendsPart (new : Progress) (es : History) : Type 0 where
+    pub count : ℕ
+    pub sent : new.sent ≡ old.sent + count
+    pub within : old.sent ≤ length w.script.sends → new.sent ≤ length w.script.sends
+    pub now : (k : ℕ) → old.sent ≤ k → k < new.sent → (send w k).send.tick.0 ≡ t
+    pub over : new.sent < length w.script.sends → (send w new.sent).send.tick.0 ≢ t
+    pub delivered : new.delivered ≡ old.delivered
+    pub lost : ℕ
+    pub dropped : new.dropped ≡ old.dropped + lost
+    pub part : ComesPart w t (sent_frames w old.sent count) old.lanes.items new.lanes.items lost es
+
+  -- what was told is of the first ones of the tick
+  abbrev pub SendsFront : History → Type 0
+  SendsFront es =
+      (count : ℕ) × (old.sent + count ≤ length w.script.sends) × ((k : ℕ) → old.sent ≤ k → k < old.sent + count → (send w k).send.tick.0 ≡ t)
+      × ComesFront w t (sent_frames w old.sent count) old.lanes.items es
+
+  -- the frames that bridges hand on and the sends of the tick come to their rings, one after another
   pub record EntriesPart (new : Progress) (es : History) : Type 0 where
     pub deliveries : length (Deliveries es) ≡ 0
     pub drops : new.dropped ≡ old.dropped + count_by is_dropped es
     pub delivered : new.delivered ≡ old.delivered
-    pub legal : (h : History) → LegalAt w t (1 + 3 * length w.net.arcs) h → LanesStand w h old.sent old.lanes.items → AreSentBefore w t old.sent
-        → LegalAt w t (2 + 3 * length w.net.arcs) (h ++ es) × LanesStand w (h ++ es) new.sent new.lanes.items × AreSentBefore w (t + 1) new.sent
+    pub legal : (h : History) → LegalAt w t (1 + 3 * length w.net.arcs) h → LanesStand w h t old.lanes.items → AreSentBefore w t old.sent
+        → LegalAt w t (2 + 3 * length w.net.arcs) (h ++ es) × LanesStand w (h ++ es) t new.lanes.items × AreSentBefore w (t + 1) new.sent
 
   abbrev pub EntriesFront : History → Type 0
-  EntriesFront es = (h : History) → LegalAt w t (1 + 3 * length w.net.arcs) h → LanesStand w h old.sent old.lanes.items → AreSentBefore w t old.sent → IsFront w (h ++ es)
+  EntriesFront es = (h : History) → LegalAt w t (1 + 3 * length w.net.arcs) h → LanesStand w h t old.lanes.items → AreSentBefore w t old.sent → IsFront w (h ++ es)
 
 -- ---- parts of a tick after one another
 

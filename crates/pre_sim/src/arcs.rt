@@ -3,16 +3,17 @@ ghost use Rattle.pre_sim.specs.Telling.{HasCause};
 ghost use Rattle.pre_trace.specs.Rules.{last_four};
 ghost use Rattle.pre_trace.specs.Scenario.{no_arc};
 ghost use Rattle.pre_trace.specs.History.{PlainEvent};
-ghost use Rattle.pre_sim.specs.Spelled.{octets_of};
+ghost use Rattle.pre_sim.specs.Spelled.{octets_of, least_whole};
 ghost use Rattle.pre_sim.specs.Parts.{TellsPart, TellsOne, LanePart, LaneFront, RingTells, RingFront, ring_at, count_of};
+ghost use Rattle.pre_sim.specs.Arriving.{KeepsInside, ArrivalFront, IsGiven, GivenFront, arrives_at};
 
 use crate::halts::Halt;
-use crate::lanes::{Flight, Lane, count_waiting, first_express};
-use crate::plans::{Frame, MAX_FRAME, arc_at, put_frame};
+use crate::lanes::{Flight, Lane, Passing, count_waiting, first_highest};
+use crate::plans::{Frame, MAX_FRAME, arc_at, latency_behind, put_frame};
 use crate::telling::tell;
 use pre_base::{ArcId, Tick};
 use pre_mpacket::Kind;
-use pre_topo::Network;
+use pre_topo::{Arc, Mode, Network};
 use pre_trace::{
     Event, Outcome, Watcher, What, deliveries_are_what_was_sent, events_before_their_end,
     mpackets_in_order,
@@ -71,7 +72,7 @@ pub(crate) fn end_on<W: Watcher>(
     tell(net, watcher, &ended)
 }
 
-/// The arrival of an mPacket at the end of an arc, where one is due: whether it was.
+/// The arrival of an mPacket at the end of an arc, where one is due: whether its frame was delivered.
 pub(crate) fn arrive_on<W: Watcher>(
     net: &Network,
     now: Tick,
@@ -80,6 +81,7 @@ pub(crate) fn arrive_on<W: Watcher>(
     watcher: &mut W,
 ) -> Result<bool, Halt>
     requires arc { arc.0 < length net.now.arcs }
+    requires now { now.0 ≤ 4 * 10 ^ 12 }
     ensures part { TellsPart net.now result (W.took watcher.old) (W.took watcher.new) (W.torn watcher.new) (λ x es. LanePart net.now now.0 (1 + length net.now.arcs + arc.0) arc.0 (count_of x) lane.old lane.new es) (LaneFront net.now now.0 (1 + length net.now.arcs + arc.0) arc.0 lane.old) }
     ensures cause { HasCause (W.faults watcher.old) (W.faults watcher.new) result }
     ensures same { W.same watcher.old watcher.new }
@@ -94,15 +96,77 @@ pub(crate) fn arrive_on<W: Watcher>(
         return Ok(false);
     }
     let _ = lane.flying.remove(0);
+    match flight.frame.next {
+        Some(next) => {
+            keep_inside(net, now, arc, &flight, next, &mut lane.inside, watcher)?;
+            Ok(false)
+        }
+        None => {
+            give(net, now, arc, &flight, watcher)?;
+            Ok(true)
+        }
+    }
+}
+
+/// The arrival of a frame that goes on: it stays inside the bridge until the latency is over.
+fn keep_inside<W: Watcher>(
+    net: &Network,
+    now: Tick,
+    arc: ArcId,
+    flight: &Flight,
+    next: ArcId,
+    inside: &mut Vec<Passing>,
+    watcher: &mut W,
+) -> Result<(), Halt>
+    requires arc { arc.0 < length net.now.arcs }
+    requires now { now.0 ≤ 4 * 10 ^ 12 }
+    ensures part { TellsPart net.now result (W.took watcher.old) (W.took watcher.new) (W.torn watcher.new) (λ x es. KeepsInside net.now now.0 arc.0 flight.now next inside.old.items inside.new.items es) (ArrivalFront now.0 arc.0 flight.now) }
+    ensures cause { HasCause (W.faults watcher.old) (W.faults watcher.new) result }
+    ensures same { W.same watcher.old watcher.new }
+{
+    let due = Tick(now.0 + latency_behind(net, arc));
+    let frame = flight.frame;
+    inside.push(Passing { frame, next, due })?;
+    tell_arrival(net, now, arc, flight, watcher)
+}
+
+/// The arrival and the delivery of a frame at its route's end.
+fn give<W: Watcher>(
+    net: &Network,
+    now: Tick,
+    arc: ArcId,
+    flight: &Flight,
+    watcher: &mut W,
+) -> Result<(), Halt>
+    requires arc { arc.0 < length net.now.arcs }
+    ensures part { TellsPart net.now result (W.took watcher.old) (W.took watcher.new) (W.torn watcher.new) (λ x es. IsGiven net.now now.0 arc.0 flight.now es) (GivenFront net.now now.0 arc.0 flight.now) }
+    ensures cause { HasCause (W.faults watcher.old) (W.faults watcher.new) result }
+    ensures same { W.same watcher.old watcher.new }
+{
+    tell_arrival(net, now, arc, flight, watcher)?;
+    deliver(net, now, arc, &flight.frame, watcher)
+}
+
+/// The event of a frame's arrival.
+fn tell_arrival<W: Watcher>(
+    net: &Network,
+    now: Tick,
+    arc: ArcId,
+    flight: &Flight,
+    watcher: &mut W,
+) -> Result<(), Halt>
+    requires arc { arc.0 < length net.now.arcs }
+    ensures one { TellsOne net.now result (W.took watcher.old) (W.took watcher.new) (W.torn watcher.new) (arrives_at now.0 arc.0 flight.now) }
+    ensures cause { HasCause (W.faults watcher.old) (W.faults watcher.new) result }
+    ensures same { W.same watcher.old watcher.new }
+{
     let arrive = Event::Arrive {
         tick: now,
         arc,
         ord: flight.ord,
         result: Outcome::Frame,
     };
-    tell(net, watcher, &arrive)?;
-    deliver(net, now, arc, &flight.frame, watcher)?;
-    Ok(true)
+    tell(net, watcher, &arrive)
 }
 
 /// A frame's delivery at the end of an arc.
@@ -169,6 +233,16 @@ pub(crate) fn enter<W: Watcher>(
     Ok(true)
 }
 
+/// The least priority of which frames go whole on an arc: on one that never preempts all do, else the express ones.
+fn least_whole(net: &Network, arc: &Arc) -> u8
+    ensures { result ≡ least_whole net.now.express_from arc.now.mode }
+{
+    match arc.mode {
+        Mode::Off => 0,
+        Mode::On | Mode::Negotiate => net.express_from,
+    }
+}
+
 /// The begin of the frame that is due on an arc, where it is free.
 pub(crate) fn start_on<W: Watcher>(
     net: &Network,
@@ -188,14 +262,14 @@ pub(crate) fn start_on<W: Watcher>(
     if !lane.is_free(now) {
         return Ok(());
     }
-    let Some(place) = first_express(lane.waiting.as_slice(), net.express_from) else {
+    let link = arc_at(net, arc);
+    let Some(place) = first_highest(lane.waiting.as_slice(), least_whole(net, link)) else {
         return Ok(());
     };
     let frame = lane.waiting.remove(place);
     let number = frame.number;
     let ord = lane.begun;
     lane.begun = ord.saturating_add(1);
-    let link = arc_at(net, arc);
     let duration = link.cost * (frame.size as u64 + 8);
     lane.sending = Some(Flight {
         frame,

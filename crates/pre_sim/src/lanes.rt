@@ -2,9 +2,10 @@ ghost use Rattle.std.specs.Prelude.{◌≡◌, ◌<◌, ◌≤◌, IfOk, MatchOp
 ghost use Rattle.std.specs.List.{AllByRecursion as Every};
 ghost use Rattle.pre_sim.specs.Spelled.{IsFirstHighest};
 ghost use Rattle.pre_sim.specs.Stands.{IsIdle};
+ghost use Rattle.pre_sim.specs.Sends.{IsSettled};
 
 use crate::plans::Frame;
-use pre_base::{Prio, Tick};
+use pre_base::{ArcId, Prio, Tick};
 use std::alloc::{AllocError, Global};
 
 /// An mPacket on its way: its frame, its number on the arc, and the tick at which it ends or arrives.
@@ -12,6 +13,14 @@ use std::alloc::{AllocError, Global};
 pub(crate) struct Flight {
     pub frame: Frame,
     pub ord: u64,
+    pub due: Tick,
+}
+
+/// A frame that arrived at a bridge and goes on: the arc that it takes, and the tick at which the bridge's latency is over.
+#[derive(Clone, Copy, Debug)]
+pub(crate) struct Passing {
+    pub frame: Frame,
+    pub next: ArcId,
     pub due: Tick,
 }
 
@@ -28,6 +37,8 @@ pub(crate) struct Lane {
     pub begun: u64,
     /// Those that have ended and haven't arrived.
     pub flying: Vec<Flight>,
+    /// The frames inside the bridge at the arc's end that arrived by it, oldest first.
+    pub inside: Vec<Passing>,
 }
 
 impl Lane {
@@ -41,6 +52,7 @@ impl Lane {
             free_from: Tick(0),
             begun: 0,
             flying: Vec::new(alloc),
+            inside: Vec::new(alloc),
         }
     }
 
@@ -55,6 +67,24 @@ impl Lane {
         ensures { result ≡ slice_get self.now.flying.items 0 }
     {
         self.flying.first().copied()
+    }
+
+    /// The oldest frame inside the bridge.
+    pub fn next_passing(&self) -> Option<Passing>
+        ensures { result ≡ slice_get self.now.inside.items 0 }
+    {
+        self.inside.first().copied()
+    }
+
+    /// Forgets the frame that the bridge hands on at the tick.
+    pub fn settle(&mut self, now: Tick)
+        ensures { IsSettled now.0 self.old self.new }
+    {
+        if let Some(passing) = self.next_passing() {
+            if passing.due == now {
+                let _ = self.inside.remove(0);
+            }
+        }
     }
 }
 
@@ -77,7 +107,7 @@ pub(crate) fn count_waiting(waiting: &[Frame], prio: Prio) -> usize
 }
 
 /// The place of the first frame of the highest priority among those from `least` on.
-pub(crate) fn first_express(waiting: &[Frame], least: u8) -> Option<usize>
+pub(crate) fn first_highest(waiting: &[Frame], least: u8) -> Option<usize>
     ensures { MatchOption result (Every (λ f. f.prio < least) waiting.now) (IsFirstHighest least waiting.now) }
 {
     let mut best: Option<(usize, u8)> = None;

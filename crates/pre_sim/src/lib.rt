@@ -12,7 +12,7 @@ mod sends;
 mod telling;
 mod ticks;
 
-pub use laws::{pair_can_run, runs_are_plain};
+pub use laws::runs_are_plain;
 pub use runs::{Sim, Step};
 
 #[cfg(test)]

@@ -38,15 +38,15 @@ pub struct Sim<'a> {
 }
 
 impl<'a> Model for Sim<'a> {
-    ghost use Rattle.std.specs.Prelude.{◌≡◌, ◌≤◌, length, vec_len};
+    ghost use Rattle.std.specs.Prelude.{◌≡◌, ◌≤◌, length, vec_len, true};
     ghost use Rattle.pre_sim.specs.Views.{SimView};
-    ghost use Rattle.pre_sim.specs.Reach.{CanRun};
+    ghost use Rattle.pre_sim.specs.Reach.{CanRun, IsWithin};
 
     ghost Value = { SimView };
 
     ghost view = { λ s. record { run = record { net = s.plan.net.now; streams = s.plan.streams.now; script = s.plan.script.now }; progress = s.progress; next = s.next.0; going = s.going } };
 
-    ghost invariant = { λ s. CanRun s.plan.net.now s.plan.streams.now s.plan.script.now × (vec_len s.progress.lanes ≡ length s.plan.net.now.arcs) × (s.next.0 ≤ s.plan.script.now.until.0) × (s.progress.dropped ≤ s.progress.sent) };
+    ghost invariant = { λ s. CanRun s.plan.net.now s.plan.streams.now s.plan.script.now × (vec_len s.progress.lanes ≡ length s.plan.net.now.arcs) × (s.next.0 ≤ s.plan.script.now.until.0) × (s.going ≡ true → IsWithin s.next.0 s.progress) };
 }
 
 impl<'a> Sim<'a> {

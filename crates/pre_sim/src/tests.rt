@@ -18,7 +18,6 @@ fn run_one_frame(alloc: Global, room: usize) -> Result<(Step, MemorySink), Fail>
     let Ok(script) = read_script(alloc, ONE_FRAME, &net, &streams) else {
         return Err("a script".into());
     };
-    pair_can_run();
     let mut sink = MemorySink::make(alloc, room, room, &[])?;
     let mut sim = Sim::make(alloc, &net, &streams, &script)?;
     let mut watcher = TraceWatcher::over(&mut sink, &net);

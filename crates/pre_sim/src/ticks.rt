@@ -1,17 +1,18 @@
 ghost use Rattle.std.specs.Prelude.{◌≡◌, ◌↔◌, ◌≤◌, ◌+◌, ◌*◌, ◌^◌, IfOk, IsTrue, length, vec_len, count_by, nat_le};
 ghost use Rattle.pre_sim.specs.Telling.{HasCause};
-ghost use Rattle.pre_sim.specs.Parts.{TellsPart, TellsOne, EntriesPart, EntriesFront, Carries, CarriesFront, TickPart, TickFront, AdvancePart, AdvanceFront, closing_event, scenario_of};
-ghost use Rattle.pre_sim.specs.Reach.{CanRun};
+ghost use Rattle.pre_sim.specs.Parts.{TellsPart, TellsOne, SendsPart, SendsFront, EntriesPart, EntriesFront, Carries, CarriesFront, TickPart, TickFront, AdvancePart, AdvanceFront, closing_event, scenario_of};
+ghost use Rattle.pre_sim.specs.Reach.{CanRun, IsWithin};
 
 use crate::halts::Halt;
 use crate::lanes::Lane;
-use crate::phases::{arrivals, ends, send, starts};
+use crate::phases::{arrivals, ends, relays, send, settle, starts};
 use crate::plans::Plan;
 use crate::telling::tell;
 use pre_base::Tick;
 use pre_script::Script;
 use pre_trace::{
     Event, Watcher, deliveries_are_what_was_sent, direct_arrivals, events_before_their_end,
+    frames_come_once, mpackets_in_order,
 };
 
 /// How far a run is.
@@ -26,22 +27,22 @@ pub(crate) struct Progress {
 }
 
 /// The sends of a tick, in the order of their frames.
-fn entries<W: Watcher>(
+fn sends<W: Watcher>(
     plan: &Plan,
     now: Tick,
     progress: &mut Progress,
     watcher: &mut W,
 ) -> Result<(), Halt>
     requires can { CanRun plan.now.net.now plan.now.streams.now plan.now.script.now }
+    requires now { now.0 ≤ 4 * 10 ^ 12 }
     requires lanes { vec_len progress.old.lanes ≡ length plan.now.net.now.arcs }
-    requires counts { progress.old.dropped ≤ progress.old.sent }
+    requires counts { IsWithin (now.0 + 1) progress.old }
     ensures lanes { vec_len progress.new.lanes ≡ length plan.now.net.now.arcs }
-    ensures counts { progress.new.dropped ≤ progress.new.sent }
-    ensures part { TellsPart plan.now.net.now result (W.took watcher.old) (W.took watcher.new) (W.torn watcher.new) (λ x es. EntriesPart (scenario_of plan.now) now.0 progress.old progress.new es) (EntriesFront (scenario_of plan.now) now.0 progress.old) }
+    ensures counts { IsWithin (now.0 + 1) progress.new }
+    ensures part { TellsPart plan.now.net.now result (W.took watcher.old) (W.took watcher.new) (W.torn watcher.new) (λ x es. SendsPart (scenario_of plan.now) now.0 progress.old progress.new es) (SendsFront (scenario_of plan.now) now.0 progress.old) }
     ensures cause { HasCause (W.faults watcher.old) (W.faults watcher.new) result }
     ensures same { W.same watcher.old watcher.new }
 {
-    events_before_their_end();
     let lines = plan.script.sends.as_slice();
     while progress.sent < lines.len() && lines[progress.sent].send.tick == now {
         let number = progress.sent;
@@ -50,6 +51,31 @@ fn entries<W: Watcher>(
         progress.dropped += u64::from(!entered);
     }
     Ok(())
+}
+
+/// What comes to rings at a tick: what the bridges hand on, and then what is sent.
+fn entries<W: Watcher>(
+    plan: &Plan,
+    now: Tick,
+    progress: &mut Progress,
+    watcher: &mut W,
+) -> Result<(), Halt>
+    requires can { CanRun plan.now.net.now plan.now.streams.now plan.now.script.now }
+    requires now { now.0 ≤ 4 * 10 ^ 12 }
+    requires lanes { vec_len progress.old.lanes ≡ length plan.now.net.now.arcs }
+    requires counts { IsWithin now.0 progress.old }
+    ensures lanes { vec_len progress.new.lanes ≡ length plan.now.net.now.arcs }
+    ensures counts { IsWithin (now.0 + 1) progress.new }
+    ensures part { TellsPart plan.now.net.now result (W.took watcher.old) (W.took watcher.new) (W.torn watcher.new) (λ x es. EntriesPart (scenario_of plan.now) now.0 progress.old progress.new es) (EntriesFront (scenario_of plan.now) now.0 progress.old) }
+    ensures cause { HasCause (W.faults watcher.old) (W.faults watcher.new) result }
+    ensures same { W.same watcher.old watcher.new }
+{
+    mpackets_in_order();
+    events_before_their_end();
+    frames_come_once();
+    let lost = relays(plan, now, &mut progress.lanes, watcher)?;
+    progress.dropped += lost;
+    sends(plan, now, progress, watcher)
 }
 
 /// What ends and arrives at a tick.
@@ -85,15 +111,19 @@ fn leave<W: Watcher>(
     requires can { CanRun plan.now.net.now plan.now.streams.now plan.now.script.now }
     requires now { now.0 ≤ 4 * 10 ^ 12 }
     requires lanes { vec_len progress.old.lanes ≡ length plan.now.net.now.arcs }
-    requires counts { progress.old.dropped ≤ progress.old.sent }
+    requires counts { IsWithin now.0 progress.old }
     ensures lanes { vec_len progress.new.lanes ≡ length plan.now.net.now.arcs }
-    ensures counts { progress.new.dropped ≤ progress.new.sent }
+    ensures counts { IsWithin (now.0 + 1) progress.new }
     ensures part { TellsPart plan.now.net.now result (W.took watcher.old) (W.took watcher.new) (W.torn watcher.new) (λ x es. Carries (scenario_of plan.now) now.0 (1 + 3 * length plan.now.net.now.arcs) now.0 (now.0 + 1) 0 (now.0 + 1) progress.old progress.new es) (CarriesFront (scenario_of plan.now) now.0 (1 + 3 * length plan.now.net.now.arcs) now.0 progress.old) }
     ensures cause { HasCause (W.faults watcher.old) (W.faults watcher.new) result }
     ensures same { W.same watcher.old watcher.new }
 {
+    mpackets_in_order();
+    events_before_their_end();
     entries(plan, now, progress, watcher)?;
-    starts(plan.net, now, &mut progress.lanes, watcher)
+    starts(plan.net, now, &mut progress.lanes, watcher)?;
+    settle(&mut progress.lanes, now);
+    Ok(())
 }
 
 /// All that happens at a tick.
@@ -106,9 +136,9 @@ fn run_tick<W: Watcher>(
     requires can { CanRun plan.now.net.now plan.now.streams.now plan.now.script.now }
     requires now { now.0 ≤ 4 * 10 ^ 12 }
     requires lanes { vec_len progress.old.lanes ≡ length plan.now.net.now.arcs }
-    requires counts { progress.old.dropped ≤ progress.old.sent }
+    requires counts { IsWithin now.0 progress.old }
     ensures lanes { vec_len progress.new.lanes ≡ length plan.now.net.now.arcs }
-    ensures counts { progress.new.dropped ≤ progress.new.sent }
+    ensures counts { IsWithin (now.0 + 1) progress.new }
     ensures part { TellsPart plan.now.net.now result (W.took watcher.old) (W.took watcher.new) (W.torn watcher.new) (λ x es. TickPart (scenario_of plan.now) now.0 progress.old progress.new es) (TickFront (scenario_of plan.now) now.0 progress.old) }
     ensures cause { HasCause (W.faults watcher.old) (W.faults watcher.new) result }
     ensures same { W.same watcher.old watcher.new }
@@ -155,9 +185,9 @@ pub(crate) fn advance<W: Watcher>(
     requires can { CanRun plan.now.net.now plan.now.streams.now plan.now.script.now }
     requires now { now.0 ≤ 4 * 10 ^ 12 }
     requires lanes { vec_len progress.old.lanes ≡ length plan.now.net.now.arcs }
-    requires counts { progress.old.dropped ≤ progress.old.sent }
+    requires counts { IsWithin now.0 progress.old }
     ensures lanes { vec_len progress.new.lanes ≡ length plan.now.net.now.arcs }
-    ensures counts { progress.new.dropped ≤ progress.new.sent }
+    ensures counts { IsWithin (now.0 + 1) progress.new }
     ensures last { IfOk result (λ last. IsTrue last ↔ (now ≡ plan.now.script.now.until)) }
     ensures part { TellsPart plan.now.net.now result (W.took watcher.old) (W.took watcher.new) (W.torn watcher.new) (λ last es. AdvancePart (scenario_of plan.now) now.0 progress.old progress.new last es) (AdvanceFront (scenario_of plan.now) now.0 progress.old) }
     ensures cause { HasCause (W.faults watcher.old) (W.faults watcher.new) result }

@@ -26,9 +26,9 @@ returns-in_err-push-clause-part g c =
 pub returns-clause-part : goal.returns-clause-part
 returns-clause-part g c =
     let laws : Laws = record { order = c.mpackets_in_order.ensures.order; sizes = c.mpackets_in_order.ensures.sizes; before = c.events_before_their_end.ensures } in
-    let new : Lane = record { waiting = c.args.lane.now.waiting; sending = None; free_from = record { 0 = c.args.now.0 + 12 * c.arc_at-link.result.now.cost }; begun = c.args.lane.now.begun; flying = c.push.new.self } in
+    let new : Lane = record { waiting = c.args.lane.now.waiting; sending = None; free_from = record { 0 = c.args.now.0 + 12 * c.arc_at-link.result.now.cost }; begun = c.args.lane.now.begun; flying = c.push.new.self; inside = c.args.lane.now.inside } in
     let due : c.in-Some.flight.due.0 ≡ c.args.now.0 = search rules in
     part_of_one c.args.net.now c.tell.result (g.W.Watcher.took c.args.watcher.now) (g.W.Watcher.took c.tell.new.watcher) (g.W.Watcher.torn c.tell.new.watcher) _ _ _
     c.tell.ensures.one
-    (λ x. ended_part laws c.args.net.now c.args.now.0 c.args.arc.0 c.requires.arc c.args.lane.now c.in-Some.flight c.in-Some.is due c.arc_at-link.result.now c.arc_at-link.ensures.found new refl refl refl refl (search rules) c.check_of.result c.check_of.ensures)
+    (λ x. ended_part laws c.args.net.now c.args.now.0 c.args.arc.0 c.requires.arc c.args.lane.now c.in-Some.flight c.in-Some.is due c.arc_at-link.result.now c.arc_at-link.ensures.found new refl refl refl refl (search rules) refl c.check_of.result c.check_of.ensures)
     (ended_front laws c.args.net.now c.args.now.0 c.args.arc.0 c.requires.arc c.args.lane.now c.in-Some.flight c.in-Some.is due c.check_of.result c.check_of.ensures)

@@ -1,23 +1,23 @@
-use Rattle.std.proofs.Common.{rules, ap, sym, ◌∙◌, ◌≡◌, Some, refl}
-use Rattle.std.specs.Prelude.{slice_get, slice_index_or}
-use Rattle.pre_sim.specs.declared.lanes.Lane.{Lane}
-use Rattle.pre_sim.specs.Parts.{RingTells, RingFront, ring_at, scenario_of}
-use Rattle.pre_sim.proofs.Lists.{found_at}
+use Rattle.std.proofs.Common.{ℕ, Bool, List, ◌≡◌, ◌∷◌, [], subst}
+use Rattle.pre_trace.specs.History.{History}
+use Rattle.pre_trace.specs.Comings.{Coming}
+use Rattle.pre_sim.specs.Parts.{scenario_of}
+use Rattle.pre_sim.specs.Sends.{ComePart, ComeFront, ComesPart, ComesFront, comes_to, drops_of, sent_frame}
 use Rattle.pre_sim.proofs.EntriesTold.{says_more}
-use Rattle.pre_sim.proofs.EntriesOne.{sent_part, sent_front}
+use Rattle.pre_sim.proofs.EntriesRun.{comes_same, front_same}
 use Rattle.pre_sim.proofs.phases.send.Goals as goal
 
 pub returns-clause-part : goal.returns-clause-part
 returns-clause-part g c =
     let w = scenario_of c.args.plan.now in
+    let t = c.args.now.0 in
     let a = c.first_arc-arc.result.0 in
-    let lane = slice_index_or c.args.lanes.now a c.index-lanes-arc.result in
-    let found : slice_get c.args.lanes.now a ≡ Some c.index-lanes-arc.result = found_at c.args.lanes.now a c.index-lanes-arc.result (search rules) (sym c.index-lanes-arc.is) in
-    let here : slice_get c.args.lanes.now a ≡ Some lane = found ∙ ap Some c.index-lanes-arc.is in
-    let new : Lane = record { waiting = c.enter.new.waiting; sending = lane.sending; free_from = lane.free_from; begun = lane.begun; flying = lane.flying } in
-    says_more c.args.plan.now.net.now c.enter.result (g.W.Watcher.took c.args.watcher.now) (g.W.Watcher.took c.enter.new.watcher) (g.W.Watcher.torn c.enter.new.watcher)
-    (RingTells c.args.now.0 a (ring_at c.args.plan.now.net.now a c.frame_of-frame.result.prio) c.frame_of-frame.result lane.waiting.items c.enter.new.waiting.items) _
-    (RingFront c.args.now.0 a (ring_at c.args.plan.now.net.now a c.frame_of-frame.result.prio) c.frame_of-frame.result lane.waiting.items) _
-    (λ entered es told. sent_part w c.args.now.0 a c.frame_of-frame.result c.frame_of-frame.ensures.frame c.args.lanes.now lane here c.args.number c.frame_of-frame.ensures.number c.first_arc-arc.ensures.first new entered es (record { sending = refl; free = refl; begun = refl; flying = refl }) told)
-    (λ es front. sent_front w c.args.now.0 a c.frame_of-frame.result c.frame_of-frame.ensures.frame c.args.lanes.now lane here c.args.number c.frame_of-frame.ensures.number c.first_arc-arc.ensures.first es front)
-    c.enter.ensures.part
+    let f = c.frame_of-frame.result in
+    let is : comes_to a f ∷ [] ≡ sent_frame w c.args.number ∷ [] = λ i. record { arc = c.first_arc-arc.ensures.first i; frame = c.frame_of-frame.ensures.number i } ∷ [] in
+    says_more c.args.plan.now.net.now c.come.result (g.W.Watcher.took c.args.watcher.now) (g.W.Watcher.took c.come.new.watcher) (g.W.Watcher.torn c.come.new.watcher)
+    (λ entered es. ComePart w t a f c.args.lanes.now c.come.new.lanes entered es) _
+    (ComeFront w t a f c.args.lanes.now) _
+    (λ entered es part. comes_same w t c.args.lanes.now c.come.new.lanes (comes_to a f ∷ []) (sent_frame w c.args.number ∷ []) (drops_of entered) es is
+    (record { deliveries = part.deliveries; drops = part.drops; kept = part.kept; come = part.come c.frame_of-frame.ensures.frame }))
+    (λ es front. front_same w t c.args.lanes.now (comes_to a f ∷ []) (sent_frame w c.args.number ∷ []) es is (front c.frame_of-frame.ensures.frame))
+    c.come.ensures.part

@@ -11,5 +11,6 @@ returns-clause-frame c =
     let r : Row = c.row_of-row.result.now in
     let is : r ≡ row w c.args.number = c.row_of-row.ensures.here in
     let long : 2 ≤ length r.route = c.row_of-row.ensures.row.route.long.0 in
-    frame_is w c.requires.can c.args.number c.requires.known _ refl c.prio_of.ensures.below (c.prio_of.ensures.same ∙ ap (λ (x : Row). x.prio) is) (ap (λ (x : Row). x.vid) is)
+    frame_is w c.args.arc.0 c.args.number c.requires.known _ refl (search rules) c.prio_of.ensures.below (c.prio_of.ensures.same ∙ ap (λ (x : Row). x.prio) is) (ap (λ (x : Row). x.vid) is)
     (search rules) (source_is w c.args.number r c.as_slice-route.result.now _ is (search rules) long) (destination_is w c.args.number r c.as_slice-route.result.now _ is (search rules) long)
+    (search rules)

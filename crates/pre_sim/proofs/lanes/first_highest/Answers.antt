@@ -5,8 +5,8 @@ use Rattle.std.proofs.lemmas.Bool.Decides.{nat_tests}
 use Rattle.pre_sim.specs.declared.plans.Frame.{Frame}
 use Rattle.pre_sim.proofs.Lists.{found_at}
 use Rattle.pre_sim.proofs.Highest.{IsBest, none_more, best_first, best_higher, best_stays, best_of_all}
-use Rattle.pre_sim.proofs.lanes.first_express.Goals as goal
-use Rattle.pre_sim.proofs.lanes.first_express.Goals.{in-None, in-Some, then-is_higher, else-is_higher}
+use Rattle.pre_sim.proofs.lanes.first_highest.Goals as goal
+use Rattle.pre_sim.proofs.lanes.first_highest.Goals.{in-None, in-Some, then-is_higher, else-is_higher}
 
 pub loop-at-preserved : goal.loop-at-preserved
 loop-at-preserved c =

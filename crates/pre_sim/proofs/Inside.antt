@@ -1,0 +1,289 @@
+-- The frames inside the bridge at an arc's end: as mPackets begin and arrive, at the end of a tick, and which of them come out.
+use Rattle.std.proofs.Common.{ℕ, zero, suc, ◌≡◌, ◌≢◌, ◌⊎◌, ◌==◌, ◌&&◌, ◌+◌, ◌<◌, ◌≤◌, Bool, true, false, List, [], ◌∷◌, ◌++◌, length, take, drop, refl, sym, ◌∙◌, ap, inl, inr, arith, subst, Option, Some, None, map, filter_map}
+use Rattle.std.specs.Prelude.{slice_get, if◌then◌else◌, option_map, option_and_then}
+use Rattle.std.specs.List.{cons_option, AllByRecursion as Every}
+use Rattle.std.specs.Option.{option_map_or}
+use Rattle.std.proofs.lemmas.Bool.{cases_lt, cases_eq}
+use Rattle.std.proofs.lemmas.Bool.Decides.{nat_tests}
+use Rattle.std.proofs.lemmas.List.{map-append}
+use Rattle.std.proofs.lemmas.List.Elements.{filter_map-append}
+use Rattle.pre_trace.specs.Scenario.{Scenario, arc, latency}
+use Rattle.pre_trace.specs.History.{History, Begin, Ended, Arrive}
+use Rattle.pre_trace.specs.Selected.{frame_in, is_frame_result}
+use Rattle.pre_trace.specs.Queries.{Begins, Ends, Arrivals}
+use Rattle.pre_trace.specs.Comings.{Coming, frame_at, next_arc, relayed}
+use Rattle.pre_trace.specs.Ordered.{IsOrdered}
+use Rattle.pre_sim.specs.declared.lanes.Passing.{Passing}
+use Rattle.pre_sim.specs.Stands.{IsFrameOf, Onward, onward, passes, AreInside}
+use Rattle.pre_sim.specs.Sends.{due_at, without_due}
+use Rattle.pre_sim.proofs.Lists.{there, within, every-append, every_weaker, every_selected, drop-append, at_front}
+use Rattle.pre_sim.proofs.Arriving.{later_ends}
+
+is_eq : (m n : ℕ) → m ≡ n → (m == n) ≡ true
+is_eq m n e = grind (arith, nat_tests)
+
+not_eq : (m n : ℕ) → m ≢ n → (m == n) ≡ false
+not_eq m n other = grind (arith, nat_tests)
+
+-- ---- more mPackets begin
+
+get_front : (bs cs : List Begin) (i : ℕ) → i < length bs → slice_get (bs ++ cs) i ≡ slice_get bs i
+get_front bs cs i lt = let b = there bs i lt in at_front bs cs i b.0 b.1 ∙ sym b.1
+
+onward_same : (w : Scenario) (a : ℕ) (bs cs : List Begin) (x : Arrive) → x.ord < length bs → onward w a (bs ++ cs) x ≡ onward w a bs x
+onward_same w a bs cs x lt =
+    ap (λ o. if is_frame_result x.result then option_and_then (λ f. option_map (λ b. record { due = x.tick + latency w a; arc = b; frame = f }) (next_arc w a f)) (option_and_then (λ b. frame_in b.what) o) else None)
+    (get_front bs cs x.ord lt)
+
+all_onward : (w : Scenario) (a : ℕ) (bs cs : List Begin) (xs : List Arrive) → Every (λ (x : Arrive). x.ord < length bs) xs → filter_map (onward w a (bs ++ cs)) xs ≡ filter_map (onward w a bs) xs
+all_onward w a bs cs [] known = refl
+all_onward w a bs cs (x ∷ xs) (here, more) = λ i. cons_option (onward_same w a bs cs x here i) (all_onward w a bs cs xs more i)
+
+every_drop : {X : Type 0} (P : X → Type 0) (n : ℕ) (xs : List X) → Every P xs → Every P (drop n xs)
+every_drop P zero xs all = all
+every_drop P (suc n) [] all = tt
+every_drop P (suc n) (x ∷ xs) (here, more) = every_drop P n xs more
+
+every_take : {X : Type 0} (P : X → Type 0) (n : ℕ) (xs : List X) → Every P xs → Every P (take n xs)
+every_take P zero xs all = tt
+every_take P (suc n) [] all = tt
+every_take P (suc n) (x ∷ xs) (here, more) = (here, every_take P n xs more)
+
+pub begun_inside : (w : Scenario) (a t : ℕ) (bs cs : List Begin) (xs : List Arrive) (items : List Passing) → Every (λ (x : Arrive). x.ord < length bs) xs → AreInside w a bs xs t items → AreInside w a (bs ++ cs) xs t items
+begun_inside w a t bs cs xs items known is = record {
+  gone = is.gone;
+  few = is.few;
+  past = is.past;
+  later = is.later;
+  are = all_onward w a bs cs (drop is.gone xs) (every_drop (λ (x : Arrive). x.ord < length bs) is.gone xs known) ∙ is.are;
+  frames = is.frames;
+}
+
+-- ---- one more arrives
+
+take_front : {X : Type 0} (n : ℕ) (xs ys : List X) → n ≤ length xs → take n (xs ++ ys) ≡ take n xs
+take_front zero xs ys le = refl
+take_front (suc n) [] ys le = absurd (omega (arith, le))
+take_front (suc n) (x ∷ xs) ys le = ap (λ zs. x ∷ zs) (take_front n xs ys (omega (arith, le)))
+
+long_front : {X : Type 0} (n : ℕ) (xs : List X) (x : X) → n ≤ length xs → n ≤ length (xs ++ x ∷ [])
+long_front zero xs x le = omega arith
+long_front (suc n) [] x le = absurd (omega (arith, le))
+long_front (suc n) (y ∷ xs) x le = let more : n ≤ length (xs ++ x ∷ []) = long_front n xs x (omega (arith, le)) in omega (arith, more)
+
+pub arrived_inside : (w : Scenario) (a t : ℕ) (bs : List Begin) (xs : List Arrive) (items : List Passing) (x : Arrive) (more : List Passing) → AreInside w a bs xs t items → t ≤ x.tick + latency w a
+    → filter_map (onward w a bs) (x ∷ []) ≡ map passes more → Every (λ (p : Passing). IsFrameOf w a p.frame) more → AreInside w a bs (xs ++ x ∷ []) t (items ++ more)
+arrived_inside w a t bs xs items x more is late goes frames =
+    let dropped : drop is.gone (xs ++ x ∷ []) ≡ drop is.gone xs ++ x ∷ [] = drop-append is.gone xs (x ∷ []) is.few in
+    record {
+      gone = is.gone;
+      few = long_front is.gone xs x is.few;
+      past = subst (Every (λ (y : Arrive). y.tick + latency w a < t)) (sym (take_front is.gone xs (x ∷ []) is.few)) is.past;
+      later = subst (Every (λ (y : Arrive). t ≤ y.tick + latency w a)) (sym dropped) (every-append (λ (y : Arrive). t ≤ y.tick + latency w a) (drop is.gone xs) (x ∷ []) is.later (late, tt));
+      are = ap (filter_map (onward w a bs)) dropped ∙ (filter_map-append (onward w a bs) (drop is.gone xs) (x ∷ []) ∙ (ap (λ ys. ys ++ filter_map (onward w a bs) (x ∷ [])) is.are ∙ (ap (λ ys. map passes items ++ ys) goes ∙ sym (map-append passes items more))));
+      frames = every-append (λ (p : Passing). IsFrameOf w a p.frame) items more is.frames frames;
+    }
+
+-- ---- each arrives later than those before it
+
+abbrev pub AreRising : List Arrive → Type 0
+AreRising [] = Unit {0}
+AreRising (x ∷ xs) = Every (λ (y : Arrive). x.tick < y.tick) xs × AreRising xs
+
+rising_from : (xs : List Arrive) → ((i k : ℕ) (x y : Arrive) → slice_get xs i ≡ Some x → slice_get xs (suc (i + k)) ≡ Some y → x.tick < y.tick) → AreRising xs
+rising_from [] apart = tt
+rising_from (x ∷ xs) apart =
+    (every_all xs (λ k y at. apart 0 k x y refl (subst (λ n. slice_get xs n ≡ Some y) (plus_zero k) at)), rising_from xs (λ i k y z at at'. apart (suc i) k y z at (subst (λ n. slice_get xs n ≡ Some z) (next i k) at')))
+  where
+    plus_zero : (k : ℕ) → k ≡ 0 + k
+    plus_zero k = omega arith
+
+    next : (i k : ℕ) → suc (i + k) ≡ suc i + k
+    next i k = omega arith
+
+    every_all : (ys : List Arrive) → ((k : ℕ) (y : Arrive) → slice_get ys k ≡ Some y → x.tick < y.tick) → Every (λ (y : Arrive). x.tick < y.tick) ys
+    every_all [] all = tt
+    every_all (y ∷ ys) all = (all 0 y refl, every_all ys (λ k z at. all (suc k) z at))
+
+pub arrivals_rise : (w : Scenario) (h : History) (t a : ℕ) → IsOrdered w h a → 1 ≤ (arc w a).cost → Every (λ (x : Arrive). x.tick < t) (Arrivals h a) → AreRising (Arrivals h a)
+arrivals_rise w h t a order cost early = rising_from (Arrivals h a) (λ i k x y at at'.
+    let x_in : i < length (Arrivals h a) = within (Arrivals h a) i x at in
+    let y_in : suc (i + k) < length (Arrivals h a) = within (Arrivals h a) (suc (i + k)) y at' in
+    let d = there (Ends h a) i (omega (arith, x_in, order.arrivals_ended)) in
+    let e = there (Ends h a) (suc (i + k)) (omega (arith, y_in, order.arrivals_ended)) in
+    let apart : d.0.tick < e.0.tick = later_ends w h t a order cost early k i d.0 e.0 d.1 e.1 in
+    omega (arith, apart, order.travels i d.0 x d.1 at, order.travels (suc (i + k)) e.0 y e.1 at'))
+
+rising_drop : (n : ℕ) (xs : List Arrive) → AreRising xs → AreRising (drop n xs)
+rising_drop zero xs rise = rise
+rising_drop (suc n) [] rise = tt
+rising_drop (suc n) (x ∷ xs) (first, rise) = rising_drop n xs rise
+
+-- ---- when they are due
+
+onward_due : (w : Scenario) (a : ℕ) (bs : List Begin) (x : Arrive) (o : Onward) → onward w a bs x ≡ Some o → o.due ≡ x.tick + latency w a
+onward_due w a bs x o is = go (is_frame_result x.result) (option_and_then (λ b. frame_in b.what) (slice_get bs x.ord)) is
+  where
+    last_step : (f : ℕ) (n : Option ℕ) → option_map (λ b. record { due = x.tick + latency w a; arc = b; frame = f }) n ≡ Some o → o.due ≡ x.tick + latency w a
+    last_step f None is = absurd (cc is)
+    last_step f (Some b) is = let same : record { due = x.tick + latency w a; arc = b; frame = f } ≡ o = cc is in ap (λ (z : Onward). z.due) (sym same)
+
+    go : (b : Bool) (f : Option ℕ) → (if b then option_and_then {U = Onward} (λ f. option_map (λ b. record { due = x.tick + latency w a; arc = b; frame = f }) (next_arc w a f)) f else None) ≡ Some o → o.due ≡ x.tick + latency w a
+    go false f is = absurd (cc is)
+    go true None is = absurd (cc is)
+    go true (Some f) is = last_step f (next_arc w a f) is
+
+-- those of later arrivals are due later
+later_dues : (w : Scenario) (a t : ℕ) (bs : List Begin) (xs : List Arrive) (items : List Passing) → Every (λ (x : Arrive). t < x.tick + latency w a) xs → filter_map (onward w a bs) xs ≡ map passes items → Every (λ (p : Passing). t < p.due.0) items
+later_dues w a t bs xs items late are =
+    from_map items (subst (Every (λ (o : Onward). t < o.due)) are (every_selected (onward w a bs) (λ (x : Arrive). t < x.tick + latency w a) (λ (o : Onward). t < o.due) (λ x o lt is. let due = onward_due w a bs x o is in omega (arith, lt, due)) xs late))
+  where
+    from_map : (ps : List Passing) → Every (λ (o : Onward). t < o.due) (map passes ps) → Every (λ (p : Passing). t < p.due.0) ps
+    from_map [] all = tt
+    from_map (p ∷ ps) (here, more) = (here, from_map ps more)
+
+none_without : (t : ℕ) (items : List Passing) → Every (λ (p : Passing). t < p.due.0) items → without_due t items ≡ items
+none_without t [] late = refl
+none_without t (p ∷ ps) (here, more) = let test : (p.due.0 == t) ≡ false = not_eq p.due.0 t (λ e. omega (arith, here, e)) in rw test refl
+
+none_due : (t : ℕ) (items : List Passing) → Every (λ (p : Passing). t < p.due.0) items → due_at t items ≡ []
+none_due t [] late = refl
+none_due t (p ∷ ps) (here, more) = let test : (p.due.0 == t) ≡ false = not_eq p.due.0 t (λ e. omega (arith, here, e)) in rw test refl
+
+-- the first of these is an arrival whose latency is over at the tick, or none is
+pub record FirstDue (w : Scenario) (a t : ℕ) (bs : List Begin) (xs : List Arrive) (items : List Passing) (x : Arrive) (rest : List Arrive) : Type 0 where
+  pub split : xs ≡ x ∷ rest
+  pub due : x.tick + latency w a ≡ t
+  pub behind : Every (λ (y : Arrive). t < y.tick + latency w a) rest
+
+first_due : (w : Scenario) (a t : ℕ) (bs : List Begin) (xs : List Arrive) (items : List Passing) → AreRising xs → Every (λ (x : Arrive). t ≤ x.tick + latency w a) xs
+    → ((x : Arrive) × (rest : List Arrive) × FirstDue w a t bs xs items x rest) ⊎ Every (λ (x : Arrive). t < x.tick + latency w a) xs
+first_due w a t bs [] items rise late = inr tt
+first_due w a t bs (x ∷ xs) items (first, rise) (here, more) = elim (cases_eq (x.tick + latency w a) t) [
+  | inl is ↦ inl (x, xs, record { split = refl; due = is; behind = every_weaker (λ (y : Arrive). x.tick < y.tick) (λ (y : Arrive). t < y.tick + latency w a) (λ y lt. omega (arith, lt, is)) xs first })
+  | inr other ↦ inr (omega (arith, here, other), every_weaker (λ (y : Arrive). x.tick < y.tick) (λ (y : Arrive). t < y.tick + latency w a) (λ y lt. omega (arith, lt, here)) xs first)
+]
+
+-- ---- the end of the tick
+
+drop_one : {X : Type 0} (n : ℕ) (xs : List X) (x : X) (rest : List X) → drop n xs ≡ x ∷ rest → (drop (n + 1) xs ≡ rest) × (take (n + 1) xs ≡ take n xs ++ x ∷ []) × (n + 1 ≤ length xs)
+drop_one {X} n xs x rest is = let same : suc n ≡ n + 1 = omega arith in subst (λ m. (drop m xs ≡ rest) × (take m xs ≡ take n xs ++ x ∷ []) × (m ≤ length xs)) same (go n xs is)
+  where
+    go : (n : ℕ) (xs : List X) → drop n xs ≡ x ∷ rest → (drop (suc n) xs ≡ rest) × (take (suc n) xs ≡ take n xs ++ x ∷ []) × (suc n ≤ length xs)
+    go zero [] is = absurd (cc is)
+    go zero (y ∷ xs) is = (cc is, ap (λ z. z ∷ []) (cc is), omega arith)
+    go (suc n) [] is = absurd (cc is)
+    go (suc n) (y ∷ xs) is = let r = go n xs is in (r.0, ap (λ zs. y ∷ zs) r.1, omega (arith, r.2))
+
+every_without : (P : Passing → Type 0) (t : ℕ) (items : List Passing) → Every P items → Every P (without_due t items)
+every_without P t [] all = tt
+every_without P t (p ∷ ps) (here, more) = go (p.due.0 == t)
+  where
+    go : (b : Bool) → Every P (if b then ps else p ∷ ps)
+    go true = more
+    go false = (here, more)
+
+-- the first one is gone, where its arrival goes on
+one_gone : (w : Scenario) (a t : ℕ) (bs : List Begin) (x : Arrive) (rest : List Arrive) (items : List Passing) → x.tick + latency w a ≡ t → Every (λ (y : Arrive). t < y.tick + latency w a) rest
+    → filter_map (onward w a bs) (x ∷ rest) ≡ map passes items → filter_map (onward w a bs) rest ≡ map passes (without_due t items)
+one_gone w a t bs x rest items due late are = go (onward w a bs x) refl are
+  where
+    go : (o : Option Onward) → onward w a bs x ≡ o → cons_option o (filter_map (onward w a bs) rest) ≡ map passes items → filter_map (onward w a bs) rest ≡ map passes (without_due t items)
+    go None is are = are ∙ ap (map passes) (sym (none_without t items (later_dues w a t bs rest items late are)))
+    go (Some o) is are = taken items are
+      where
+        taken : (ps : List Passing) → o ∷ filter_map (onward w a bs) rest ≡ map passes ps → filter_map (onward w a bs) rest ≡ map passes (without_due t ps)
+        taken [] are = absurd (cc are)
+        taken (p ∷ ps) are =
+            let first : o ≡ passes p = cc are in
+            let test : (p.due.0 == t) ≡ true = is_eq p.due.0 t (ap (λ (z : Onward). z.due) (sym first) ∙ (onward_due w a bs x o is ∙ due)) in
+            let others : filter_map (onward w a bs) rest ≡ map passes ps = cc are in
+            rw test others
+
+pub settled_inside : (w : Scenario) (a t : ℕ) (bs : List Begin) (xs : List Arrive) (items : List Passing) → AreRising xs → AreInside w a bs xs t items → AreInside w a bs xs (t + 1) (without_due t items)
+settled_inside w a t bs xs items rise is = elim (first_due w a t bs (drop is.gone xs) items (rising_drop is.gone xs rise) is.later) [
+  | inl (x, rest, f) ↦
+      let one = drop_one is.gone xs x rest f.split in
+      record {
+        gone = is.gone + 1;
+        few = one.2;
+        past = subst (Every (λ (y : Arrive). y.tick + latency w a < t + 1)) (sym one.1)
+            (every-append (λ (y : Arrive). y.tick + latency w a < t + 1) (take is.gone xs) (x ∷ []) (every_weaker (λ (y : Arrive). y.tick + latency w a < t) (λ (y : Arrive). y.tick + latency w a < t + 1) (λ y lt. omega (arith, lt)) (take is.gone xs) is.past) (omega (arith, f.due), tt));
+        later = subst (Every (λ (y : Arrive). t + 1 ≤ y.tick + latency w a)) (sym one.0) (every_weaker (λ (y : Arrive). t < y.tick + latency w a) (λ (y : Arrive). t + 1 ≤ y.tick + latency w a) (λ y lt. omega (arith, lt)) rest f.behind);
+        are = ap (filter_map (onward w a bs)) one.0 ∙ one_gone w a t bs x rest items f.due f.behind (ap (filter_map (onward w a bs)) (sym f.split) ∙ is.are);
+        frames = every_without (λ (p : Passing). IsFrameOf w a p.frame) t items is.frames;
+      }
+  | inr late ↦ record {
+    gone = is.gone;
+    few = is.few;
+    past = every_weaker (λ (y : Arrive). y.tick + latency w a < t) (λ (y : Arrive). y.tick + latency w a < t + 1) (λ y lt. omega (arith, lt)) (take is.gone xs) is.past;
+    later = every_weaker (λ (y : Arrive). t < y.tick + latency w a) (λ (y : Arrive). t + 1 ≤ y.tick + latency w a) (λ y lt. omega (arith, lt)) (drop is.gone xs) late;
+    are = is.are ∙ ap (map passes) (sym (none_without t items (later_dues w a t bs (drop is.gone xs) items late is.are)));
+    frames = every_without (λ (p : Passing). IsFrameOf w a p.frame) t items is.frames;
+  }
+]
+
+-- ---- which of them come to rings
+
+abbrev coming_of : Onward → Coming
+coming_of o = record { arc = o.arc; frame = o.frame }
+
+relayed_now : (w : Scenario) (h : History) (t a : ℕ) (x : Arrive) → x.tick + latency w a ≡ t → relayed w h t a x ≡ option_map coming_of (onward w a (Begins h a) x)
+relayed_now w h t a x due = go (is_frame_result x.result) (x.tick + latency w a == t) (is_eq (x.tick + latency w a) t due) (frame_at h a x.ord)
+  where
+    last_step : (f : ℕ) (n : Option ℕ) → option_map (λ b. record { arc = b; frame = f }) n ≡ option_map coming_of (option_map (λ b. record { due = x.tick + latency w a; arc = b; frame = f }) n)
+    last_step f None = refl
+    last_step f (Some b) = refl
+
+    go : (b c : Bool) → c ≡ true → (o : Option ℕ) → (if b && c then option_and_then {U = Coming} (λ f. option_map (λ b. record { arc = b; frame = f }) (next_arc w a f)) o else None)
+        ≡ option_map coming_of (if b then option_and_then {U = Onward} (λ f. option_map (λ b. record { due = x.tick + latency w a; arc = b; frame = f }) (next_arc w a f)) o else None)
+    go false c on o = refl
+    go true c on None = rw on refl
+    go true c on (Some f) = rw on (last_step f (next_arc w a f))
+
+relayed_other : (w : Scenario) (h : History) (t a : ℕ) (x : Arrive) → x.tick + latency w a ≢ t → relayed w h t a x ≡ None
+relayed_other w h t a x other = go (is_frame_result x.result) (x.tick + latency w a == t) (not_eq (x.tick + latency w a) t other) (frame_at h a x.ord)
+  where
+    go : (b c : Bool) → c ≡ false → (o : Option ℕ) → (if b && c then option_and_then {U = Coming} (λ f. option_map (λ b. record { arc = b; frame = f }) (next_arc w a f)) o else None) ≡ None
+    go false c off o = refl
+    go true c off o = rw off refl
+
+none_relayed : (w : Scenario) (h : History) (t a : ℕ) (xs : List Arrive) → Every (λ (x : Arrive). x.tick + latency w a ≢ t) xs → filter_map (relayed w h t a) xs ≡ []
+none_relayed w h t a [] other = refl
+none_relayed w h t a (x ∷ xs) (here, more) = rw (relayed_other w h t a x here) (none_relayed w h t a xs more)
+
+take_drop : {X : Type 0} (n : ℕ) (xs : List X) → xs ≡ take n xs ++ drop n xs
+take_drop zero xs = refl
+take_drop (suc n) [] = refl
+take_drop (suc n) (x ∷ xs) = ap (λ zs. x ∷ zs) (take_drop n xs)
+
+one_relayed : (w : Scenario) (h : History) (t a : ℕ) (x : Arrive) (rest : List Arrive) (items : List Passing) → x.tick + latency w a ≡ t → Every (λ (y : Arrive). t < y.tick + latency w a) rest
+    → filter_map (onward w a (Begins h a)) (x ∷ rest) ≡ map passes items → filter_map (relayed w h t a) (x ∷ rest) ≡ due_at t items
+one_relayed w h t a x rest items due late are =
+    let none = none_relayed w h t a rest (every_weaker (λ (y : Arrive). t < y.tick + latency w a) (λ (y : Arrive). y.tick + latency w a ≢ t) (λ y lt e. omega (arith, lt, e)) rest late) in
+    (λ i. cons_option (relayed_now w h t a x due i) (none i)) ∙ go (onward w a (Begins h a) x) refl are
+  where
+    go : (o : Option Onward) → onward w a (Begins h a) x ≡ o → cons_option o (filter_map (onward w a (Begins h a)) rest) ≡ map passes items → cons_option (option_map coming_of o) [] ≡ due_at t items
+    go None is are = sym (none_due t items (later_dues w a t (Begins h a) rest items late are))
+    go (Some o) is are = taken items are
+      where
+        taken : (ps : List Passing) → o ∷ filter_map (onward w a (Begins h a)) rest ≡ map passes ps → coming_of o ∷ [] ≡ due_at t ps
+        taken [] are = absurd (cc are)
+        taken (p ∷ ps) are =
+            let first : o ≡ passes p = cc are in
+            let test : (p.due.0 == t) ≡ true = is_eq p.due.0 t (ap (λ (z : Onward). z.due) (sym first) ∙ (onward_due w a (Begins h a) x o is ∙ due)) in
+            rw test (ap (λ z. coming_of z ∷ []) first)
+
+-- the frames that an arc's bridge hands on at the tick
+pub relayed_are : (w : Scenario) (h : History) (t a : ℕ) (items : List Passing) → AreRising (Arrivals h a) → AreInside w a (Begins h a) (Arrivals h a) t items → filter_map (relayed w h t a) (Arrivals h a) ≡ due_at t items
+relayed_are w h t a items rise is =
+    let before = none_relayed w h t a (take is.gone (Arrivals h a)) (every_weaker (λ (y : Arrive). y.tick + latency w a < t) (λ (y : Arrive). y.tick + latency w a ≢ t) (λ y lt e. omega (arith, lt, e)) (take is.gone (Arrivals h a)) is.past) in
+    ap (filter_map (relayed w h t a)) (take_drop is.gone (Arrivals h a))
+    ∙ (filter_map-append (relayed w h t a) (take is.gone (Arrivals h a)) (drop is.gone (Arrivals h a))
+    ∙ (ap (λ cs. cs ++ filter_map (relayed w h t a) (drop is.gone (Arrivals h a))) before
+    ∙ elim (first_due w a t (Begins h a) (drop is.gone (Arrivals h a)) items (rising_drop is.gone (Arrivals h a) rise) is.later) [
+      | inl (x, rest, f) ↦ ap (filter_map (relayed w h t a)) f.split ∙ one_relayed w h t a x rest items f.due f.behind (ap (filter_map (onward w a (Begins h a))) (sym f.split) ∙ is.are)
+      | inr late ↦
+          none_relayed w h t a (drop is.gone (Arrivals h a)) (every_weaker (λ (y : Arrive). t < y.tick + latency w a) (λ (y : Arrive). y.tick + latency w a ≢ t) (λ y lt e. omega (arith, lt, e)) (drop is.gone (Arrivals h a)) late)
+          ∙ sym (none_due t items (later_dues w a t (Begins h a) (drop is.gone (Arrivals h a)) items late is.are))
+    ]))
