@@ -45,11 +45,11 @@ pub unmoved : (a : Option Told) (P : Files → Type 0) → ((files : Files) → 
 unmoved None P f = tt
 unmoved (Some x) P f = (f x.files, refl)
 
-of_more : (a b : Option Told) (P Q : Files → Type 0) → ((files : Files) → P files → Q files) → WhereTold a b (OfFiles P) → WhereTold a b (OfFiles Q)
+pub of_more : (a b : Option Told) (P Q : Files → Type 0) → ((files : Files) → P files → Q files) → WhereTold a b (OfFiles P) → WhereTold a b (OfFiles Q)
 of_more a b P Q f = WhereTold-map a b (OfFiles P) (OfFiles Q) (λ x y p. (f x.files p.0, p.1))
 
 -- a fact before a call and one after it, of files that stay as they were
-of_both : (a b c : Option Told) (P Q R : Files → Type 0) → ((files : Files) → P files → Q files → R files) → WhereTold a b (OfFiles P) → WhereTold b c (OfFiles Q) → WhereTold a c (OfFiles R)
+pub of_both : (a b c : Option Told) (P Q R : Files → Type 0) → ((files : Files) → P files → Q files → R files) → WhereTold a b (OfFiles P) → WhereTold b c (OfFiles Q) → WhereTold a c (OfFiles R)
 of_both a b c P Q R f =
     WhereTold-join a b c (OfFiles P) (OfFiles Q) (OfFiles R) (λ x y z p q. (f x.files p.0 (subst Q p.1 q.0), q.1 ∙ p.1))
 

@@ -2,13 +2,16 @@ pub mod Two
 mod Numbers
 pub mod Runs
 pub mod Steps
-pub mod Causes
+mod Texts
+mod Alike
 pub mod DueAnswers
 pub mod OneTrace
 pub mod PacketLines
 pub mod ListLemmas
 pub mod DueListing
 mod CertifyLemmas
+mod ReplayLemmas
+mod CanRuns
 pub mod DueCertificate
 pub mod OneReading
 pub mod DueStreams

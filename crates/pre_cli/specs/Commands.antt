@@ -1,9 +1,11 @@
 -- The command that the words ask for, and its causes.
-use Rattle.std.specs.Prelude.{ℕ, List, [], ◌∷◌, codes, Option, Some, None, if◌then◌else◌}
+use Rattle.std.specs.Prelude.{◌≡◌, ℕ, List, [], ◌∷◌, codes, Option, Some, None, if◌then◌else◌}
 use Rattle.std.specs.Str.{bytes_eq}
 use Rattle.pre_cli.specs.declared.statuses.Status.{Status}
-use Rattle.pre_cli.specs.Words.{script_named}
-use Rattle.pre_cli.specs.Answers.{Outside, Cause, Leaves}
+use Rattle.pre_cli.specs.declared.statuses.Status.TheVariants as status
+use Rattle.pre_cli.specs.Words.{ReplayWords, replay_named}
+use Rattle.pre_cli.specs.Answers.{Outside}
+use Rattle.pre_cli.specs.Replaying.{ReplayingCause, ReplayingLeaves}
 use Rattle.pre_cli.specs.Listed.{ListingCause, ListingLeaves}
 use Rattle.pre_cli.specs.Certifying.{CertifyingCause, CertifyingLeaves}
 
@@ -17,15 +19,20 @@ abbrev pub files_named : List (List ℕ) → Option (List ℕ × List ℕ)
 files_named (command ∷ net ∷ streams ∷ []) = if bytes_eq command (codes "certify") then Some (net, streams) else None
 files_named _ = None
 
--- the command that the words ask for, with its words
+-- the command that the words ask for, with its words, or none that is known
 pub data Command : Type 0 where
   certifies : List ℕ → List ℕ → Command
   lists : List ℕ → Command
-  replays : Option (List ℕ) → Command
+  replays : ReplayWords → Command
+  unknown : Command
+
+abbrev pub replaying_or : Option ReplayWords → Command
+replaying_or (Some words) = replays words
+replaying_or None = unknown
 
 abbrev pub listing_or : Option (List ℕ) → List (List ℕ) → Command
 listing_or (Some name) words = lists name
-listing_or None words = replays (script_named words)
+listing_or None words = replaying_or (replay_named words)
 
 abbrev pub certifying_or : Option (List ℕ × List ℕ) → List (List ℕ) → Command
 certifying_or (Some files) words = certifies files.0 files.1
@@ -38,7 +45,8 @@ command_of words = certifying_or (files_named words) words
 abbrev pub CauseBy : Command → Status → Outside → Type 0
 CauseBy (certifies net streams) s o = CertifyingCause s net streams o
 CauseBy (lists name) s o = ListingCause s name o
-CauseBy (replays name) s o = Cause s name o
+CauseBy (replays words) s o = ReplayingCause s words o
+CauseBy unknown s o = s ≡ status.Words
 
 abbrev pub CauseOf : Status → List (List ℕ) → Outside → Type 0
 CauseOf s words o = CauseBy (command_of words) s o
@@ -47,7 +55,8 @@ CauseOf s words o = CauseBy (command_of words) s o
 abbrev pub LeavesBy : Command → Status → Outside → Type 0
 LeavesBy (certifies net streams) s o = CertifyingLeaves s net streams o
 LeavesBy (lists name) s o = ListingLeaves s name o o.taken_before o.taken_after
-LeavesBy (replays name) s o = Leaves s name o
+LeavesBy (replays words) s o = ReplayingLeaves s words o
+LeavesBy unknown s o = o.taken_after ≡ o.taken_before
 
 abbrev pub LeavesOf : Status → List (List ℕ) → Outside → Type 0
 LeavesOf s words o = LeavesBy (command_of words) s o

@@ -3,13 +3,15 @@ pub mod Words
 pub mod Scripts
 pub mod Written
 pub mod Runs
-pub mod Parts
 pub mod Answers
 pub mod Due
 pub mod PacketFiles
 pub mod Listing
 pub mod Listed
 pub mod Certifying
+pub mod Negotiating
+pub mod Replaying
 pub mod Commands
 pub mod DueListings
 pub mod DueCertificates
+pub mod DueReplays

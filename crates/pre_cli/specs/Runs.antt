@@ -1,5 +1,5 @@
 -- What a run left in the sink that its trace goes to, by how it ended.
-use Rattle.std.specs.Prelude.{ℕ, ◌≤◌, Option}
+use Rattle.std.specs.Prelude.{◌≡◌, ℕ, ◌≤◌, Option, true}
 use Rattle.pre_base.specs.Faults.{Rose}
 use Rattle.pre_base.specs.Told.{WhereTold}
 use Rattle.pre_base.specs.Sinks.{Taken}
@@ -38,3 +38,14 @@ RunCause status.ReadFault before now = ⊥
 RunCause (status.Rules kind row rule) before now = ⊥
 RunCause (status.Unfit cause) before now = ⊥
 RunCause (status.Form kind line rule) before now = ⊥
+
+-- nothing more is taken, and all is flushed where that was done
+abbrev pub FlushEnds : Status → Option Taken → Option Taken → Type 0
+FlushEnds status.Done old new = WhereTold old new (λ a b. (b.octets ≡ a.octets) × (b.flushed ≡ true))
+FlushEnds status.WriteFault old new = WhereTold old new (λ a b. b.octets ≡ a.octets)
+FlushEnds status.Memory old new = ⊥
+FlushEnds status.Words old new = ⊥
+FlushEnds status.ReadFault old new = ⊥
+FlushEnds (status.Rules kind row rule) old new = ⊥
+FlushEnds (status.Unfit cause) old new = ⊥
+FlushEnds (status.Form kind line rule) old new = ⊥

@@ -35,8 +35,8 @@ fn pair_streams() -> &'static [u8]
     b"[[stream]]\nname = \"x\"\nvid = 10\nprio = 6\nroute = [\"a\", \"b\"]\nmax = 1522\nburst = 2000\nrate = 100000\n[[flow]]\nname = \"y\"\nvid = 20\nprio = 0\nroute = [\"a\", \"b\"]\nmax = 1522\n"
 }
 
-/// The octets of a network or stream file, or the answer in their place.
-fn file_text<H: Shelf>(
+/// The octets of a file, or the answer in their place.
+pub(crate) fn file_text<H: Shelf>(
     alloc: Global,
     file: FileWord,
     word: &str,
@@ -136,7 +136,11 @@ fn stream_status(fault: StreamFault) -> Status
 }
 
 /// The network that a word stands for, or the answer in its place.
-fn network_named<H: Shelf>(alloc: Global, word: &str, shelf: &mut H) -> Result<Network, Status>
+pub(crate) fn network_named<H: Shelf>(
+    alloc: Global,
+    word: &str,
+    shelf: &mut H,
+) -> Result<Network, Status>
     ensures net { IfOk result (λ net. WhereTold (H.tells shelf.old) (H.tells shelf.new) (OfFiles (IsNetIn word.now net))) }
     ensures cause { IfErr result (λ s. InPlace s (IsGone pair_network word.now) (NetRefused word.now) (H.faults shelf.old) (H.faults shelf.new) (H.tells shelf.old) (H.tells shelf.new)) }
     ensures later { H.faults shelf.old ≤ H.faults shelf.new }
@@ -151,7 +155,7 @@ fn network_named<H: Shelf>(alloc: Global, word: &str, shelf: &mut H) -> Result<N
 }
 
 /// The streams that a word stands for, for this network, or the answer in their place.
-fn streams_named<H: Shelf>(
+pub(crate) fn streams_named<H: Shelf>(
     alloc: Global,
     word: &str,
     net: &Network,

@@ -1,15 +1,16 @@
 ghost use Rattle.std.specs.Prelude.{◌≡◌, map, string_bytes};
 ghost use Rattle.std.specs.Option.{option_map};
-ghost use Rattle.pre_cli.specs.Words.{script_named};
+ghost use Rattle.pre_cli.specs.Words.{replay_named, replay_words};
 ghost use Rattle.pre_cli.specs.Commands.{packets_named, files_named};
 
-/// The name of the script, where the words are `replay pair` and a name.
-pub(crate) fn script_named(words: &[String]) -> Option<&str>
-    ensures { option_map (λ name. name.now) result ≡ script_named (map string_bytes words.now) }
+/// The words for the network, the streams and the script, where the words are `replay` and three more.
+pub(crate) fn replay_named(words: &[String]) -> Option<(&str, &str, &str)>
+    ensures { option_map (λ names. replay_words names.0.now names.1.now names.2.now) result ≡ replay_named (map string_bytes words.now) }
 {
     match words {
-        [command, built_in, name] if command.as_str() == "replay" && built_in.as_str() == "pair" =>
-            { Some(name.as_str()) }
+        [command, net, streams, script] if command.as_str() == "replay" => {
+            Some((net.as_str(), streams.as_str(), script.as_str()))
+        }
         _ => None,
     }
 }

@@ -7,6 +7,7 @@ mod commands;
 mod laws;
 mod listing_laws;
 mod listings;
+mod negotiating;
 mod packet_files;
 mod preempts;
 mod refusals;

@@ -3,22 +3,26 @@ ghost use Rattle.pre_cli.specs.Commands.{CauseOf, LeavesOf};
 
 use crate::Status;
 use crate::certifying::certify_files;
-use crate::commands::{files_named, packets_named, script_named};
+use crate::commands::{files_named, packets_named, replay_named};
 use crate::listings::list_file;
-use crate::replays::replay_pair;
+use crate::replays::replay_files;
 use pre_base::{Shelf, Sink};
 use std::alloc::Global;
 
 /// Does the command that the words say, over the shelf's files, and writes what it gives to the sink. So far
-/// `certify NET STREAMS` is known, which writes the least certificate of the streams over the network, with `pair` for a
-/// built-in text; `replay pair SCRIPT`, which runs the script over the built-in network and streams, and writes the trace;
-/// and `mpackets FILE`, which writes a line for each mPacket of the file, with what it gives to one receiver.
+/// `certify NET STREAMS` is known, which writes the least certificate of the streams over the network;
+/// `replay NET STREAMS SCRIPT`, which runs the script over these, and writes the trace; and `mpackets FILE`, which writes a
+/// line for each mPacket of the file, with what it gives to one receiver. In the place of NET or STREAMS the word `pair`
+/// stands for a built-in text.
 ///
-/// Each answer has its cause, and no two causes hold together; only want of memory is free. Where the answer is Done, the
-/// sink took the whole of it and nothing else, flushed: of `replay` the text of a legal history of what the script's file
-/// says to run, in which each delivery is a frame that was sent, octet for octet, and none is delivered twice; of
-/// `mpackets` the listing, and of `certify` the text of a certificate that is good and least. Where writing failed, or memory ran out in a run, it took a front of such a text, and else
-/// nothing.
+/// Each answer has its cause, and no two causes hold together; only want of memory is free. Files are read and tested one
+/// by one, in the order of the words, before anything is written. Where the answer is Done, the sink took the whole of the
+/// text and nothing else, flushed: of `replay` the text of a legal history of what the three texts say to run, in which
+/// each delivery is a frame that was sent, octet for octet, and none is delivered twice; of `mpackets` the listing, and of
+/// `certify` the text of a certificate that is good and least. Where writing failed, or memory ran out in a run, it took a
+/// front of such a text, and else nothing.
+///
+/// For now `replay` refuses a network with a link that negotiates as rule 5, with the first such link as its row.
 pub fn preempt<H: Shelf, S: Sink>(
     alloc: Global,
     words: &[String],
@@ -36,8 +40,8 @@ pub fn preempt<H: Shelf, S: Sink>(
     if let Some(name) = packets_named(words) {
         return list_file(alloc, name, shelf, sink);
     }
-    match script_named(words) {
+    match replay_named(words) {
         None => Status::Words,
-        Some(name) => replay_pair(alloc, name, shelf, sink),
+        Some((net, streams, script)) => replay_files(alloc, net, streams, script, shelf, sink),
     }
 }

@@ -1,27 +1,25 @@
-ghost use Rattle.std.specs.Prelude.{◌≡◌, ◌≤◌, ◌≢◌, ℕ, true, Some, string_bytes, map};
+ghost use Rattle.std.specs.Prelude.{◌≡◌, ◌≤◌, ◌≢◌, true, None, IfOk, IfErr};
 ghost use Rattle.pre_base.specs.Told.{WhereTold};
+ghost use Rattle.pre_script.specs.Fits as lines;
 ghost use Rattle.pre_sim.specs.Reach.{CanRun};
-ghost use Rattle.pre_sim.specs.Steps.{StepTells, StepCause, is_more};
-ghost use Rattle.std.specs.Prelude.{Option, None, IfOk, IfErr, length};
-ghost use Rattle.pre_base.specs.Reading.{IsWhole};
-ghost use Rattle.pre_topo.specs.PairNetwork as network;
-ghost use Rattle.pre_streams.specs.PairStreams as streams;
-ghost use Rattle.pre_streams.specs.Fits as rows;
-ghost use Rattle.pre_cli.specs.Runs.{RunLeaves, RunEnds, RunCause};
-ghost use Rattle.pre_cli.specs.Answers.{Cause, Leaves};
-ghost use Rattle.pre_cli.specs.Parts.{OctetsCause, OctetsLeaves, FlushEnds, IsScriptFile, IsReadCause, IsScriptFault};
-ghost use Rattle.pre_script.specs.Fits as fits;
-ghost use Rattle.pre_script.specs.Reading as reading;
-ghost use Rattle.std.specs.Prelude.{Ok};
+ghost use Rattle.pre_sim.specs.Steps.{StepTells, StepCause};
+ghost use Rattle.pre_cli.specs.Certifying.{pair_network, OfFiles, IsGone, InPlace, IsNoFile};
+ghost use Rattle.pre_cli.specs.Negotiating.{first_negotiating_link};
+ghost use Rattle.pre_cli.specs.Replaying.{IsRunNetIn, RunNetRefused, IsScriptIn, ScriptRefused, IsScenarioIn, GoneIn, RefusedIn, ReplayingCause, ReplayingLeaves};
+ghost use Rattle.pre_cli.specs.Replaying as replaying;
+ghost use Rattle.pre_cli.specs.Runs.{RunLeaves, RunEnds, RunCause, FlushEnds};
+ghost use Rattle.pre_cli.specs.Words.{replay_words};
 
+use crate::certifying::{file_text, network_named, streams_named};
+use crate::negotiating::first_negotiating_link;
 use crate::{FileWord, Status};
-use pre_base::{ReadError, Shelf, Sink, read_whole};
+use pre_base::{FileRow, Shelf, Sink};
 use pre_script::{Script, ScriptFault, read_script};
-use pre_sim::{Sim, Step, pair_can_run, runs_are_plain};
+use pre_sim::{Sim, Step, runs_are_plain};
 use pre_streams::Streams;
 use pre_topo::Network;
 use pre_trace::{TraceWatcher, Watcher, deliveries_are_what_was_sent};
-use std::alloc::{AllocError, Global};
+use std::alloc::Global;
 
 /// Does all the steps of a run: the last one's answer.
 fn run_on<W: Watcher>(sim: &mut Sim, watcher: &mut W) -> Step
@@ -92,84 +90,116 @@ fn trace<S: Sink>(
     }
 }
 
-/// The octets of a script file, or the answer in their place.
-fn octets_of<H: Shelf>(alloc: Global, name: &str, shelf: &mut H) -> Result<Vec<u8>, Status>
-    ensures octets { IfOk result (λ octets. WhereTold (H.tells shelf.old) (H.tells shelf.new) (IsScriptFile name.now octets.items)) }
-    ensures cause { IfErr result (λ status. IsReadCause status name.now (H.faults shelf.old) (H.faults shelf.new) (H.tells shelf.old) (H.tells shelf.new)) }
-    ensures later { H.faults shelf.old ≤ H.faults shelf.new }
+/// A run can't go over this link yet: it is answered as one whose mode is out of range.
+fn negotiating_status(link: u64) -> Status
+    ensures { result ≡ replaying.negotiating_status link }
 {
-    match read_whole(alloc, shelf, name) {
-        Ok(octets) => Ok(octets),
-        Err(ReadError::Fault) => Err(Status::ReadFault),
-        Err(ReadError::Length) => Err(Status::Form {
-            file: FileWord::Script,
-            line: 0,
-            rule: 0,
-        }),
-        Err(ReadError::Memory) => Err(Status::Memory),
+    Status::Rules {
+        file: FileWord::Net,
+        row: FileRow::Link(link),
+        rule: 5,
     }
 }
 
-/// The built-in network and streams.
-fn pairs(alloc: Global) -> Result<(Network, Streams), AllocError>
-    ensures { IfOk result (λ p. network.IsPair p.0 × streams.IsPair p.1 × rows.Fits p.0 p.1) }
+/// The network that a word stands for, where a run can go over it, or the answer in its place.
+fn run_network<H: Shelf>(alloc: Global, word: &str, shelf: &mut H) -> Result<Network, Status>
+    ensures modes { IfOk result (λ net. first_negotiating_link net.arcs ≡ None) }
+    ensures net { IfOk result (λ net. WhereTold (H.tells shelf.old) (H.tells shelf.new) (OfFiles (IsRunNetIn word.now net))) }
+    ensures cause { IfErr result (λ s. InPlace s (IsGone pair_network word.now) (RunNetRefused word.now) (H.faults shelf.old) (H.faults shelf.new) (H.tells shelf.old) (H.tells shelf.new)) }
+    ensures later { H.faults shelf.old ≤ H.faults shelf.new }
 {
-    Ok((pre_topo::pair(alloc)?, pre_streams::pair(alloc)?))
+    match network_named(alloc, word, shelf) {
+        Ok(net) => match first_negotiating_link(&net) {
+            Some(link) => Err(negotiating_status(link)),
+            None => Ok(net),
+        },
+        Err(status) => Err(status),
+    }
 }
 
-/// The script that the octets spell for the built-in network and streams, or the answer in its place.
-fn script_of(
-    alloc: Global,
-    octets: &[u8],
-    net: &Network,
-    streams: &Streams,
-) -> Result<Script, Status>
-    ensures script { IfOk result (λ script. fits.Fits net.now streams.now script × (reading.script_of net.now streams.now octets.now ≡ Ok script)) }
-    ensures fault { IfErr result (λ status. IsScriptFault status (reading.script_of net.now streams.now octets.now)) }
+fn script_status(fault: ScriptFault) -> Status
+    ensures { result ≡ replaying.script_status fault }
 {
-    match read_script(alloc, octets, net, streams) {
-        Ok(script) => Ok(script),
-        Err(ScriptFault::Fault { line, rule }) => Err(Status::Form {
+    match fault {
+        ScriptFault::Fault { line, rule } => Status::Form {
             file: FileWord::Script,
             line,
             rule,
-        }),
-        Err(ScriptFault::Memory) => Err(Status::Memory),
+        },
+        ScriptFault::Memory => Status::Memory,
     }
 }
 
-/// Runs the script that the octets spell over the built-in network and streams, and writes its trace.
-fn replay_octets<S: Sink>(alloc: Global, octets: &[u8], sink: &mut S) -> Status
-    ensures cause { OctetsCause result octets.now (S.faults sink.old) (S.faults sink.new) }
-    ensures leaves { OctetsLeaves result octets.now (S.tells sink.old) (S.tells sink.new) }
-    ensures later { S.faults sink.old ≤ S.faults sink.new }
-{
-    let Ok((net, streams)) = pairs(alloc) else {
-        return Status::Memory;
-    };
-    match script_of(alloc, octets, &net, &streams) {
-        Ok(script) => {
-            pair_can_run();
-            trace(alloc, &net, &streams, &script, sink)
-        }
-        Err(status) => status,
-    }
-}
-
-/// The command `replay pair` with the name of a script.
-pub(crate) fn replay_pair<H: Shelf, S: Sink>(
+/// The script of a file for this network and these streams, or the answer in its place.
+fn script_in<H: Shelf>(
     alloc: Global,
     name: &str,
+    net: &Network,
+    streams: &Streams,
+    shelf: &mut H,
+) -> Result<Script, Status>
+    ensures fits { IfOk result (lines.Fits net.now streams.now) }
+    ensures script { IfOk result (λ script. WhereTold (H.tells shelf.old) (H.tells shelf.new) (OfFiles (IsScriptIn name.now net.now streams.now script))) }
+    ensures cause { IfErr result (λ s. InPlace s (IsNoFile name.now) (ScriptRefused name.now net.now streams.now) (H.faults shelf.old) (H.faults shelf.new) (H.tells shelf.old) (H.tells shelf.new)) }
+    ensures later { H.faults shelf.old ≤ H.faults shelf.new }
+{
+    match file_text(alloc, FileWord::Script, name, shelf) {
+        Ok(text) => match read_script(alloc, text.as_slice(), net, streams) {
+            Ok(script) => Ok(script),
+            Err(fault) => Err(script_status(fault)),
+        },
+        Err(status) => Err(status),
+    }
+}
+
+/// What is run: a network, streams and a script.
+#[derive(Drop)]
+struct Input {
+    net: Network,
+    streams: Streams,
+    script: Script,
+}
+
+/// What the words of the command stand for, each text read and tested before the next one, or the answer in its place.
+fn input_named<H: Shelf>(
+    alloc: Global,
+    net_word: &str,
+    streams_word: &str,
+    script_word: &str,
+    shelf: &mut H,
+) -> Result<Input, Status>
+    ensures can { IfOk result (λ input. CanRun input.net input.streams input.script) }
+    ensures input { IfOk result (λ input. WhereTold (H.tells shelf.old) (H.tells shelf.new) (OfFiles (IsScenarioIn (replay_words net_word.now streams_word.now script_word.now) (record { net = input.net; streams = input.streams; script = input.script })))) }
+    ensures cause { IfErr result (λ s. InPlace s (GoneIn (replay_words net_word.now streams_word.now script_word.now)) (RefusedIn (replay_words net_word.now streams_word.now script_word.now)) (H.faults shelf.old) (H.faults shelf.new) (H.tells shelf.old) (H.tells shelf.new)) }
+    ensures later { H.faults shelf.old ≤ H.faults shelf.new }
+{
+    let net = run_network(alloc, net_word, shelf)?;
+    let streams = streams_named(alloc, streams_word, &net, shelf)?;
+    let script = script_in(alloc, script_word, &net, &streams, shelf)?;
+    Ok(Input {
+        net,
+        streams,
+        script,
+    })
+}
+
+/// The command `replay` with words for a network and streams, as `certify` takes them, and the name of a script: it
+/// runs the script, and writes the trace.
+pub(crate) fn replay_files<H: Shelf, S: Sink>(
+    alloc: Global,
+    net_word: &str,
+    streams_word: &str,
+    script_word: &str,
     shelf: &mut H,
     sink: &mut S,
 ) -> Status
-    ensures cause { Cause result (Some name.now) (record { shelf_before = H.faults shelf.old; shelf_after = H.faults shelf.new; sink_before = S.faults sink.old; sink_after = S.faults sink.new; told_before = H.tells shelf.old; told_after = H.tells shelf.new; taken_before = S.tells sink.old; taken_after = S.tells sink.new }) }
-    ensures leaves { Leaves result (Some name.now) (record { shelf_before = H.faults shelf.old; shelf_after = H.faults shelf.new; sink_before = S.faults sink.old; sink_after = S.faults sink.new; told_before = H.tells shelf.old; told_after = H.tells shelf.new; taken_before = S.tells sink.old; taken_after = S.tells sink.new }) }
+    ensures cause { ReplayingCause result (replay_words net_word.now streams_word.now script_word.now) (record { shelf_before = H.faults shelf.old; shelf_after = H.faults shelf.new; sink_before = S.faults sink.old; sink_after = S.faults sink.new; told_before = H.tells shelf.old; told_after = H.tells shelf.new; taken_before = S.tells sink.old; taken_after = S.tells sink.new }) }
+    ensures leaves { ReplayingLeaves result (replay_words net_word.now streams_word.now script_word.now) (record { shelf_before = H.faults shelf.old; shelf_after = H.faults shelf.new; sink_before = S.faults sink.old; sink_after = S.faults sink.new; told_before = H.tells shelf.old; told_after = H.tells shelf.new; taken_before = S.tells sink.old; taken_after = S.tells sink.new }) }
     ensures shelf_later { H.faults shelf.old ≤ H.faults shelf.new }
     ensures sink_later { S.faults sink.old ≤ S.faults sink.new }
 {
-    match octets_of(alloc, name, shelf) {
-        Ok(octets) => replay_octets(alloc, octets.as_slice(), sink),
+    match input_named(alloc, net_word, streams_word, script_word, shelf) {
+        Ok(input) => trace(alloc, &input.net, &input.streams, &input.script, sink),
         Err(status) => status,
     }
 }

@@ -1,6 +1,6 @@
 -- The arrivals of an arc's moment carry a legal history on.
 use Rattle.std.proofs.Common.{ℕ, ◌≡◌, ◌≢◌, ◌==◌, ◌+◌, ◌<◌, ◌≤◌, Bool, true, false, List, [], ◌∷◌, ◌++◌, length, drop, refl, sym, ◌∙◌, ap, inl, inr, arith, subst, Option, Some, None, filter_map, map, length-append}
-use Rattle.std.specs.Prelude.{slice_get, slice_index_or, if◌then◌else◌, option_map, option_and_then}
+use Rattle.std.specs.Prelude.{slice_get, if◌then◌else◌, option_map, option_and_then}
 use Rattle.std.specs.List.{cons_option, AllByRecursion as Every}
 use Rattle.std.proofs.lemmas.Bool.{cases_lt}
 use Rattle.std.proofs.lemmas.List.{append-nil}
@@ -8,7 +8,6 @@ use Rattle.std.proofs.lemmas.List.Elements.{filter_map-append}
 use Rattle.std.proofs.lemmas.Bool.Decides.{nat_tests}
 use Rattle.pre_base.specs.declared.numbers.FrameNo.{FrameNo}
 use Rattle.pre_topo.specs.declared.network.Network.{Network}
-use Rattle.pre_topo.specs.declared.arcs.Arc.{Arc}
 use Rattle.pre_lldp.specs.LldpLayout.{is_lldp_frame}
 use Rattle.pre_mpacket.specs.Arrivals.{Given, Gives}
 use Rattle.pre_trace.specs.declared.events.What.TheVariants as what
@@ -16,7 +15,7 @@ use Rattle.pre_trace.specs.declared.events.Outcome.TheVariants as outcome
 use Rattle.pre_trace.specs.Scenario.{Scenario, arc, no_arc, latency, FrameOf}
 use Rattle.pre_base.specs.declared.numbers.ArcId.{ArcId}
 use Rattle.pre_trace.specs.Moments.{Phase}
-use Rattle.pre_trace.specs.History.{PlainEvent, History, Begin, Ended, Arrive}
+use Rattle.pre_trace.specs.History.{History, Begin, Ended, Arrive}
 use Rattle.pre_trace.specs.Selected.{begin_on, ended_on, arrive_on, entry_on, frame_in}
 use Rattle.pre_trace.specs.Queries.{Begins, Ends, Arrivals, Entries}
 use Rattle.pre_trace.specs.Octets.{Air}
@@ -41,7 +40,6 @@ use Rattle.pre_sim.proofs.Arriving.{all_arrived, none_arrives, one_arrives}
 use Rattle.pre_sim.proofs.Ending.{octets_are}
 use Rattle.pre_sim.proofs.Direct.{is_direct, user_frame}
 use Rattle.pre_sim.proofs.Inside.{arrived_inside}
-use Rattle.pre_sim.proofs.Lists.{read_at}
 use Rattle.pre_sim.proofs.EndParts.{moved, still_same, stays_standing}
 
 -- what is known of arrivals in legal histories

@@ -1,5 +1,5 @@
 -- What can be run goes whole over each arc of its route, and nothing of it is lost or damaged.
-use Rattle.std.proofs.Common.{ℕ, zero, suc, ◌≡◌, ◌≢◌, ◌+◌, ◌<◌, ◌≤◌, List, [], ◌∷◌, length, map, refl, sym, ◌∙◌, ap, arith, subst, inl, inr, Option, Some, None, IsTrue}
+use Rattle.std.proofs.Common.{ℕ, zero, suc, ◌≡◌, ◌≢◌, ◌+◌, ◌<◌, ◌≤◌, List, [], ◌∷◌, length, map, refl, sym, ◌∙◌, ap, arith, subst, Option, Some, None, IsTrue}
 use Rattle.std.specs.Prelude.{Bool, true, false, ◌||◌, ◌&&◌, slice_get, slice_index_or, is_some, All, AllPairs, Contains}
 use Rattle.std.specs.List.{list_all}
 use Rattle.std.specs.Option.{option_map_or}
@@ -23,7 +23,7 @@ use Rattle.pre_trace.specs.Scenario.{Scenario, arc, row, send, no_arc, no_row, n
 use Rattle.pre_trace.specs.Comings.{hops}
 use Rattle.pre_trace.specs.Deliveries.{IsDirect, IsPlain}
 use Rattle.pre_sim.specs.Reach.{CanRun}
-use Rattle.pre_sim.proofs.Lists.{read_at, within, find_at}
+use Rattle.pre_sim.proofs.Lists.{read_at, within}
 
 -- ---- routes
 

@@ -1,5 +1,5 @@
 -- The lane after a frame came to its ring.
-use Rattle.std.proofs.Common.{ℕ, ◌≡◌, ◌≢◌, ◌==◌, ◌&&◌, ◌+◌, ◌<◌, ◌≤◌, not, Bool, true, false, List, [], ◌∷◌, ◌++◌, length, refl, sym, ◌∙◌, ap, arith, subst, Option, Some, map, filter, length-append}
+use Rattle.std.proofs.Common.{ℕ, ◌≡◌, ◌≢◌, ◌==◌, ◌&&◌, ◌<◌, ◌≤◌, not, Bool, true, false, List, [], ◌∷◌, ◌++◌, length, refl, sym, ◌∙◌, ap, arith, subst, Option, Some, map, filter, length-append}
 use Rattle.std.specs.Prelude.{slice_get, slice_index, if◌then◌else◌, count_by}
 use Rattle.std.specs.List.{list_any, AllByRecursion as Every}
 use Rattle.std.proofs.Math.Path.{fun_ext}
@@ -18,7 +18,7 @@ use Rattle.pre_trace.specs.Comings.{Coming, entry_for, entry_event}
 use Rattle.pre_sim.specs.declared.plans.Frame.{Frame}
 use Rattle.pre_sim.specs.declared.lanes.Flight.{Flight}
 use Rattle.pre_sim.specs.Stands.{IsFrameOf, GoesWhole, IsLane, AreApart, numbers_of, has_begun, StillWaiting}
-use Rattle.pre_sim.proofs.Lists.{every-append, every_weaker, read_at}
+use Rattle.pre_sim.proofs.Lists.{every-append, read_at}
 
 no_eq : (m n : ℕ) → m < n → (m == n) ≡ false
 no_eq m n lt = grind (arith, nat_tests)

@@ -1,13 +1,13 @@
 -- Frames that come to rings for the first time: one after another.
-use Rattle.std.proofs.Common.{ℕ, zero, suc, ◌≡◌, ◌≢◌, ◌==◌, ◌&&◌, ◌+◌, ◌*◌, ◌<◌, Bool, true, false, List, [], ◌∷◌, ◌++◌, length, refl, sym, ◌∙◌, ap, arith, subst, Some, None, append_assoc}
-use Rattle.std.specs.Prelude.{if◌then◌else◌, slice_index_or, AllPairs, All}
+use Rattle.std.proofs.Common.{ℕ, suc, ◌≡◌, ◌≢◌, ◌==◌, ◌&&◌, ◌<◌, Bool, true, false, List, [], ◌∷◌, ◌++◌, length, refl, sym, ◌∙◌, ap, arith, subst, Some, None, append_assoc}
+use Rattle.std.specs.Prelude.{if◌then◌else◌, slice_index_or}
 use Rattle.std.specs.List.{cons_option, AllByRecursion as Every}
 use Rattle.std.proofs.lemmas.List.{append-nil}
 use Rattle.std.proofs.lemmas.List.Elements.{filter_map-append, recursion_from_All}
 use Rattle.std.proofs.lemmas.Bool.Decides.{nat_tests}
 use Rattle.pre_trace.specs.Scenario.{Scenario, row, capacity}
-use Rattle.pre_trace.specs.History.{PlainEvent, History, Begin, Entry}
-use Rattle.pre_trace.specs.Selected.{RingEntry, what_is, begin_on, entry_on, entry_of}
+use Rattle.pre_trace.specs.History.{PlainEvent, History, Begin}
+use Rattle.pre_trace.specs.Selected.{RingEntry, what_is, begin_on, entry_on}
 use Rattle.pre_trace.specs.Queries.{Begins, Entries, Waiting}
 use Rattle.pre_trace.specs.Comings.{Coming, EntriesOf, entry_event, entry_for}
 use Rattle.pre_trace.specs.Deliveries.{ComeOnce}

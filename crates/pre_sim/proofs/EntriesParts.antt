@@ -1,23 +1,20 @@
 -- The entries of a tick carry a legal history on: what bridges hand on, and then what is sent.
-use Rattle.std.proofs.Common.{ℕ, ◌≡◌, ◌≢◌, ◌+◌, ◌*◌, ◌<◌, ◌≤◌, List, [], ◌∷◌, ◌++◌, length, drop, refl, sym, ◌∙◌, ap, inl, inr, arith, subst, Some, None, count_by, append_assoc}
+use Rattle.std.proofs.Common.{ℕ, ◌≡◌, ◌+◌, ◌*◌, ◌<◌, ◌≤◌, List, ◌++◌, length, drop, sym, ◌∙◌, ap, inl, inr, arith, subst, Some, None, append_assoc}
 use Rattle.std.specs.Prelude.{Result, if◌then◌else◌, Bool, true, false, ◌==◌}
 use Rattle.std.specs.List.{AllByRecursion as Every}
 use Rattle.std.proofs.lemmas.Bool.{cases_lt}
-use Rattle.std.proofs.lemmas.Bool.Decides.{nat_tests}
-use Rattle.std.proofs.lemmas.List.{append-nil, length-append}
-use Rattle.std.proofs.lemmas.List.Elements.{filter_map-append}
+use Rattle.std.proofs.lemmas.List.{append-nil}
 use Rattle.pre_trace.specs.Scenario.{Scenario, send, no_send}
 use Rattle.pre_trace.specs.Moments.{Phase, moments}
 use Rattle.pre_trace.specs.History.{PlainEvent, History, Arrive}
-use Rattle.pre_trace.specs.Selected.{arrive_on, is_dropped, delivery_of}
-use Rattle.pre_trace.specs.Queries.{Arrivals, Deliveries}
+use Rattle.pre_trace.specs.Selected.{arrive_on}
+use Rattle.pre_trace.specs.Queries.{Arrivals}
 use Rattle.pre_trace.specs.Placed.{number, IsBefore, AllBefore}
 use Rattle.pre_trace.specs.Ordered.{IsOrdered}
 use Rattle.pre_trace.specs.Comings.{Coming, sends_from, Comings, EntriesOf}
 use Rattle.pre_trace.specs.Rules.{HappensIn}
 use Rattle.pre_trace.specs.Legal.{LegalUpTo}
 use Rattle.pre_trace.specs.Deliveries.{IsDirect, ComeOnce}
-use Rattle.pre_sim.specs.declared.lanes.Lane.{Lane}
 use Rattle.pre_sim.specs.declared.ticks.Progress.{Progress}
 use Rattle.pre_topo.specs.declared.network.Network.{Network}
 use Rattle.pre_sim.specs.declared.halts.Halt.{Halt}
@@ -27,10 +24,10 @@ use Rattle.pre_sim.specs.Reach.{CanRun}
 use Rattle.pre_sim.specs.Parts.{TellsPart, LegalAt, IsFront, SendsPart, SendsFront, EntriesPart, EntriesFront}
 use Rattle.pre_sim.specs.Stands.{LanesStand, AreSentBefore}
 use Rattle.pre_sim.specs.Sends.{BeforeEntries, AreNew, ComesPart, ComesFront, dues, sent_frames}
-use Rattle.pre_sim.proofs.Lists.{every_selected, count_by-append}
+use Rattle.pre_sim.proofs.Lists.{every_selected}
 use Rattle.pre_sim.proofs.Moments.{one_more, tick_lt}
 use Rattle.pre_sim.proofs.Direct.{is_direct}
-use Rattle.pre_sim.proofs.EntriesNew.{are_new, new_front, entries_then}
+use Rattle.pre_sim.proofs.EntriesNew.{are_new, entries_then}
 use Rattle.pre_sim.proofs.EntriesRun.{come_then, front_then, front_more}
 use Rattle.pre_sim.proofs.EntriesSends.{comings_are, passed, none_left, next_sends}
 use Rattle.pre_sim.proofs.EntriesEarly.{entries_place, early_before}

@@ -1,14 +1,11 @@
 -- What a bridge hands on for one arc.
-use Rattle.std.proofs.Common.{ℕ, ◌≡◌, ◌≢◌, ◌==◌, ◌<◌, ◌≤◌, Bool, true, false, List, [], ◌∷◌, ◌++◌, length, drop, refl, sym, ◌∙◌, ap, arith, subst, Some, None}
-use Rattle.std.specs.Prelude.{slice_get, slice_index_or, if◌then◌else◌}
+use Rattle.std.proofs.Common.{ℕ, ◌≡◌, ◌≢◌, ◌==◌, ◌<◌, ◌≤◌, Bool, true, false, List, [], ◌∷◌, length, drop, refl, sym, ◌∙◌, ap, arith, subst, Some, None}
+use Rattle.std.specs.Prelude.{slice_get}
 use Rattle.std.specs.List.{AllByRecursion as Every}
 use Rattle.std.specs.Option.{option_map_or}
-use Rattle.std.proofs.lemmas.Bool.{false≢true}
 use Rattle.std.proofs.lemmas.Bool.Decides.{nat_tests}
-use Rattle.pre_topo.specs.declared.network.Network.{Network}
-use Rattle.pre_streams.specs.declared.rows.Streams.{Streams}
 use Rattle.pre_trace.specs.Scenario.{Scenario}
-use Rattle.pre_trace.specs.History.{PlainEvent, History}
+use Rattle.pre_trace.specs.History.{History}
 use Rattle.pre_trace.specs.Comings.{Coming}
 use Rattle.pre_sim.specs.declared.plans.Frame.{Frame}
 use Rattle.pre_sim.specs.declared.lanes.Lane.{Lane}
@@ -16,10 +13,10 @@ use Rattle.pre_sim.specs.declared.lanes.Passing.{Passing}
 use Rattle.pre_sim.specs.Reach.{CanRun}
 use Rattle.pre_sim.specs.Parts.{count_of}
 use Rattle.pre_sim.specs.Stands.{IsFrameOf, LanesStand}
-use Rattle.pre_sim.specs.Sends.{BeforeEntries, AreNew, Come, ComePart, ComeFront, ComesPart, ComesFront, comes_to, inside_at, due_at, drops_of}
+use Rattle.pre_sim.specs.Sends.{ComePart, ComeFront, ComesPart, ComesFront, comes_to, inside_at, due_at, drops_of}
 use Rattle.pre_sim.proofs.Direct.{known_arc}
 use Rattle.pre_sim.proofs.Lists.{headed, none_at}
-use Rattle.pre_sim.proofs.EntriesRun.{none_come, comes_same, whole_front}
+use Rattle.pre_sim.proofs.EntriesRun.{none_come, comes_same}
 
 is_eq : (m n : ℕ) → m ≡ n → (m == n) ≡ true
 is_eq m n e = grind (arith, nat_tests)

@@ -1,8 +1,7 @@
 -- What bridges hand on, arc by arc.
-use Rattle.std.proofs.Common.{ℕ, ◌≡◌, ◌+◌, ◌-◌, ◌<◌, ◌≤◌, List, ◌++◌, refl, sym, ◌∙◌, ap, arith, subst, append_assoc}
+use Rattle.std.proofs.Common.{ℕ, ◌≡◌, ◌+◌, ◌-◌, ◌<◌, List, ◌++◌, sym, ◌∙◌, ap, arith}
 use Rattle.pre_trace.specs.Scenario.{Scenario}
 use Rattle.pre_trace.specs.History.{History}
-use Rattle.pre_trace.specs.Comings.{Coming}
 use Rattle.pre_sim.specs.declared.lanes.Lane.{Lane}
 use Rattle.pre_sim.specs.Sends.{ComesPart, ComesFront, dues, due_at, inside_at}
 use Rattle.pre_sim.proofs.EntriesRun.{come_then, front_then, front_more, comes_same, front_same}

@@ -1,5 +1,5 @@
 -- Frames that come to rings, some after others.
-use Rattle.std.proofs.Common.{ℕ, ◌≡◌, ◌+◌, List, [], ◌∷◌, ◌++◌, length, refl, sym, ◌∙◌, ap, arith, subst, count_by, append_assoc}
+use Rattle.std.proofs.Common.{ℕ, ◌≡◌, ◌+◌, List, [], ◌++◌, length, refl, sym, ◌∙◌, ap, arith, subst, append_assoc}
 use Rattle.std.proofs.lemmas.List.{append-nil, length-append}
 use Rattle.std.proofs.lemmas.List.Elements.{filter_map-append}
 use Rattle.pre_trace.specs.Scenario.{Scenario}
@@ -9,7 +9,7 @@ use Rattle.pre_trace.specs.Queries.{Deliveries}
 use Rattle.pre_trace.specs.Comings.{Coming, EntriesOf}
 use Rattle.pre_sim.specs.declared.lanes.Lane.{Lane}
 use Rattle.pre_sim.specs.Stands.{LanesStand}
-use Rattle.pre_sim.specs.Sends.{BeforeEntries, AreNew, Come, ComesPart, ComesFront}
+use Rattle.pre_sim.specs.Sends.{BeforeEntries, AreNew, ComesPart, ComesFront}
 use Rattle.pre_sim.proofs.Lists.{count_by-append}
 use Rattle.pre_sim.proofs.EntriesNew.{new_front, new_rest, entries_then}
 

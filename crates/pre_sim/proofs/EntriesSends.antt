@@ -1,12 +1,12 @@
 -- The frames that come to a ring at a tick are those that bridges hand on, and those of its sends.
-use Rattle.std.proofs.Common.{ℕ, zero, suc, ◌≡◌, ◌≢◌, ◌==◌, ◌+◌, ◌*◌, ◌<◌, ◌≤◌, Bool, true, false, List, [], ◌∷◌, ◌++◌, length, drop, refl, sym, ◌∙◌, ap, arith, subst, Some, filter_map, flat_map, append_assoc}
-use Rattle.std.specs.Prelude.{slice_get, slice_index_or, if◌then◌else◌}
+use Rattle.std.proofs.Common.{ℕ, zero, suc, ◌≡◌, ◌≢◌, ◌==◌, ◌+◌, ◌<◌, ◌≤◌, true, false, List, [], ◌∷◌, ◌++◌, length, drop, refl, sym, ◌∙◌, ap, arith, filter_map, flat_map, append_assoc}
+use Rattle.std.specs.Prelude.{slice_index_or}
 use Rattle.std.specs.List.{AllByRecursion as Every}
 use Rattle.std.specs.Option.{option_map_or}
 use Rattle.std.proofs.lemmas.Bool.Decides.{nat_tests}
 use Rattle.std.proofs.lemmas.List.{append-nil}
 use Rattle.pre_script.specs.declared.scripts.SendLine.{SendLine}
-use Rattle.pre_trace.specs.Scenario.{Scenario, arc, no_arc, send, no_send}
+use Rattle.pre_trace.specs.Scenario.{Scenario, no_arc, send, no_send}
 use Rattle.pre_trace.specs.History.{Arrive, History}
 use Rattle.pre_trace.specs.Queries.{Arrivals}
 use Rattle.pre_trace.specs.Ordered.{IsOrdered}

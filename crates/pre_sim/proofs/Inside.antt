@@ -2,13 +2,12 @@
 use Rattle.std.proofs.Common.{ℕ, zero, suc, ◌≡◌, ◌≢◌, ◌⊎◌, ◌==◌, ◌&&◌, ◌+◌, ◌<◌, ◌≤◌, Bool, true, false, List, [], ◌∷◌, ◌++◌, length, take, drop, refl, sym, ◌∙◌, ap, inl, inr, arith, subst, Option, Some, None, map, filter_map}
 use Rattle.std.specs.Prelude.{slice_get, if◌then◌else◌, option_map, option_and_then}
 use Rattle.std.specs.List.{cons_option, AllByRecursion as Every}
-use Rattle.std.specs.Option.{option_map_or}
-use Rattle.std.proofs.lemmas.Bool.{cases_lt, cases_eq}
+use Rattle.std.proofs.lemmas.Bool.{cases_eq}
 use Rattle.std.proofs.lemmas.Bool.Decides.{nat_tests}
 use Rattle.std.proofs.lemmas.List.{map-append}
 use Rattle.std.proofs.lemmas.List.Elements.{filter_map-append}
 use Rattle.pre_trace.specs.Scenario.{Scenario, arc, latency}
-use Rattle.pre_trace.specs.History.{History, Begin, Ended, Arrive}
+use Rattle.pre_trace.specs.History.{History, Begin, Arrive}
 use Rattle.pre_trace.specs.Selected.{frame_in, is_frame_result}
 use Rattle.pre_trace.specs.Queries.{Begins, Ends, Arrivals}
 use Rattle.pre_trace.specs.Comings.{Coming, frame_at, next_arc, relayed}

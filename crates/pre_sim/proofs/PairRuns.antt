@@ -1,24 +1,16 @@
 -- A script that was read for the built-in network can be run.
-use Rattle.std.proofs.Common.{◌≡◌, ◌≢◌, ℕ, zero, suc, List, codes, length, slice_index_or, slice_get, Some, None, IsSome, IsTrue, unwrap_or, All, true, false, Bool, ◌&&◌, refl, sym, ◌∙◌, ap, subst, arith}
+use Rattle.std.proofs.Common.{◌≢◌, zero, suc, List, All, true, false, Bool, sym, ap, subst, arith}
 use Rattle.std.proofs.lemmas.Bool.{false≢true}
-use Rattle.std.proofs.lemmas.Option.{none-some}
-use Rattle.pre_curve.specs.declared.curves.Curve.{Curve}
 use Rattle.pre_topo.specs.declared.network.Network.{Network}
 use Rattle.pre_topo.specs.declared.arcs.Arc.{Arc}
 use Rattle.pre_topo.specs.declared.arcs.Mode.{Mode}
 use Rattle.pre_topo.specs.declared.arcs.Mode.TheVariants as mode
 use Rattle.pre_topo.specs.PairNetwork as network
 use Rattle.pre_topo.specs.Pair.{pair_arcs}
-use Rattle.pre_streams.specs.declared.rows.Row.{Row}
 use Rattle.pre_streams.specs.declared.rows.Streams.{Streams}
-use Rattle.pre_streams.specs.PairStreams as streams
-use Rattle.pre_streams.specs.Pair.{pair_row, pair_rows}
 use Rattle.pre_streams.specs.Fits as rows_rules
 use Rattle.pre_script.specs.declared.scripts.Script.{Script}
 use Rattle.pre_script.specs.Fits as lines_rules
-use Rattle.pre_script.specs.Rules.{is_off}
-use Rattle.pre_script.specs.Saying.{may_be_sent, is_off_at}
-use Rattle.std.specs.Option.{option_map_or}
 use Rattle.pre_sim.specs.Reach.{CanRun}
 
 is_negotiate : Mode → Bool

@@ -1,10 +1,9 @@
 -- The end of a tick: the bridges forget what they handed on.
-use Rattle.std.proofs.Common.{ℕ, zero, suc, ◌≡◌, ◌≢◌, ◌==◌, ◌∙◌, ◌+◌, ◌*◌, ◌<◌, ◌≤◌, inl, inr, Bool, true, false, List, [], ◌∷◌, length, refl, sym, ap, arith, subst, Some, None}
+use Rattle.std.proofs.Common.{ℕ, zero, suc, ◌≡◌, ◌≢◌, ◌==◌, ◌∙◌, ◌+◌, ◌<◌, ◌≤◌, inl, inr, Bool, true, false, List, [], ◌∷◌, length, refl, sym, ap, arith, subst, Some, None}
 use Rattle.std.specs.Prelude.{slice_get, set, if◌then◌else◌}
 use Rattle.std.proofs.lemmas.Bool.{cases_eq}
 use Rattle.pre_sim.proofs.Others.{set_here, set_there}
-use Rattle.std.specs.List.{AllByRecursion as Every}
-use Rattle.pre_trace.specs.Scenario.{Scenario, arc, no_arc}
+use Rattle.pre_trace.specs.Scenario.{Scenario, no_arc}
 use Rattle.pre_trace.specs.Moments.{moments}
 use Rattle.pre_trace.specs.History.{PlainEvent, History, Arrive}
 use Rattle.pre_trace.specs.Selected.{arrive_on}

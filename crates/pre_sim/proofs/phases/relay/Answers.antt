@@ -1,7 +1,7 @@
 use Rattle.std.proofs.Common.{rules, ap, sym, ◌∙◌, ◌≡◌, ◌≢◌, ◌≤◌, Some, None, refl, [], length}
 use Rattle.std.specs.Prelude.{slice_get, slice_index_or}
-use Rattle.pre_sim.specs.Parts.{scenario_of, count_of}
-use Rattle.pre_sim.specs.Sends.{ComePart, ComeFront, ComesPart, due_at, inside_at, drops_of}
+use Rattle.pre_sim.specs.Parts.{scenario_of}
+use Rattle.pre_sim.specs.Sends.{ComePart, ComeFront, ComesPart, due_at, inside_at}
 use Rattle.pre_sim.specs.Told.{tells_nothing}
 use Rattle.pre_sim.proofs.Lists.{found_at}
 use Rattle.pre_sim.proofs.TellParts.{part_of_none, then_front}

@@ -1,5 +1,4 @@
-use Rattle.std.proofs.Common.{rules, ap, sym, ◌∙◌, ◌≡◌, ◌+◌, ◌++◌, subst, length, List, []}
-use Rattle.pre_trace.specs.Comings.{Coming}
+use Rattle.std.proofs.Common.{rules, sym, ◌∙◌, ◌≡◌, ◌+◌, ◌++◌, subst, length, []}
 use Rattle.pre_sim.specs.Parts.{scenario_of, count_of}
 use Rattle.pre_sim.specs.Sends.{ComesPart, ComesFront, dues, due_at, inside_at}
 use Rattle.pre_sim.specs.Told.{tells_nothing, tells_then}

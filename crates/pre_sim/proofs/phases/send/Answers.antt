@@ -1,8 +1,6 @@
-use Rattle.std.proofs.Common.{ℕ, Bool, List, ◌≡◌, ◌∷◌, [], subst}
-use Rattle.pre_trace.specs.History.{History}
-use Rattle.pre_trace.specs.Comings.{Coming}
+use Rattle.std.proofs.Common.{◌≡◌, ◌∷◌, []}
 use Rattle.pre_sim.specs.Parts.{scenario_of}
-use Rattle.pre_sim.specs.Sends.{ComePart, ComeFront, ComesPart, ComesFront, comes_to, drops_of, sent_frame}
+use Rattle.pre_sim.specs.Sends.{ComePart, ComeFront, comes_to, drops_of, sent_frame}
 use Rattle.pre_sim.proofs.EntriesTold.{says_more}
 use Rattle.pre_sim.proofs.EntriesRun.{comes_same, front_same}
 use Rattle.pre_sim.proofs.phases.send.Goals as goal

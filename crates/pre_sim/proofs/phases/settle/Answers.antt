@@ -1,4 +1,4 @@
-use Rattle.std.proofs.Common.{rules, sym, ◌≡◌, ◌<◌, ap, ◌∙◌, Some, length}
+use Rattle.std.proofs.Common.{rules, sym, ◌≡◌, ap, ◌∙◌, Some}
 use Rattle.std.specs.Prelude.{slice_get, slice_index_or}
 use Rattle.pre_sim.proofs.Lists.{found_at}
 use Rattle.pre_sim.proofs.Settling.{settles_more, settles_all}

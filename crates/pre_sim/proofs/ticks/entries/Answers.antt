@@ -1,4 +1,4 @@
-use Rattle.std.proofs.Common.{rules, arith, ap, sym, ◌∙◌, ◌≡◌, ◌+◌, ◌++◌, List, [], length, subst, refl}
+use Rattle.std.proofs.Common.{rules, ap, sym, ◌∙◌, ◌≡◌, List, [], length, subst, refl}
 use Rattle.pre_sim.specs.declared.lanes.Lane.{Lane}
 use Rattle.pre_sim.specs.Parts.{scenario_of}
 use Rattle.pre_sim.specs.Sends.{ComesPart, ComesFront, dues}

@@ -3,7 +3,7 @@
 use crate::running::{EXAMPLE, replayed, shelf_with, wide_sink};
 use pre_base::{Tick, read_whole};
 use pre_script::read_script;
-use pre_sim::{Sim, pair_can_run};
+use pre_sim::Sim;
 use std::test::Fail;
 
 #[test]
@@ -36,7 +36,6 @@ fn a_run_is_made(rt: HostRuntime) -> Result<(), Fail> {
         panic!(rt; "no script")
     };
     assert!(rt; script.sends.is_empty());
-    pair_can_run();
     let sim = Sim::make(alloc, &net, &streams, &script)?;
     assert!(rt; sim.going());
     Ok(())

@@ -35,7 +35,14 @@ fn the_flush_fails(rt: HostRuntime) -> Result<(), Fail> {
 fn wrong_words(rt: HostRuntime) -> Result<(), Fail> {
     let alloc = rt.alloc();
     let usage = "usage: preempt certify, judge, replay, mpackets or drill";
-    for text in ["", "replay pair", "replay other script", "certify pair"] {
+    for text in [
+        "",
+        "replay",
+        "replay pair script",
+        "replay pair pair script pair",
+        "Replay pair pair script",
+        "certify pair",
+    ] {
         let mut shelf = shelf_with(alloc, EXAMPLE.as_bytes())?;
         let mut sink = wide_sink(alloc)?;
         let words = words_of(alloc, text)?;
@@ -51,7 +58,7 @@ fn a_missing_file(rt: HostRuntime) -> Result<(), Fail> {
     let alloc = rt.alloc();
     let mut shelf = shelf_with(alloc, EXAMPLE.as_bytes())?;
     let mut sink = wide_sink(alloc)?;
-    let words = words_of(alloc, "replay pair other")?;
+    let words = words_of(alloc, "replay pair pair other")?;
     let status = preempt(alloc, words.as_slice(), &mut shelf, &mut sink);
     assert_status(&rt, alloc, &status, 2, "read fault")?;
     assert!(rt; sink.octets().is_empty());
@@ -66,7 +73,7 @@ fn a_read_fails(rt: HostRuntime) -> Result<(), Fail> {
         let mut shelf = MemoryShelf::make(alloc, &[call])?;
         shelf.put("script", EXAMPLE.as_bytes())?;
         let mut sink = wide_sink(alloc)?;
-        let words = words_of(alloc, "replay pair script")?;
+        let words = words_of(alloc, "replay pair pair script")?;
         let status = preempt(alloc, words.as_slice(), &mut shelf, &mut sink);
         assert_eq!(rt; status.number(), 2, "at call {call}");
         assert!(rt; sink.octets().is_empty());

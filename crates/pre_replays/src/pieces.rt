@@ -59,7 +59,7 @@ fn octet_by_octet(rt: HostRuntime) -> Result<(), Fail> {
         handed: 0,
     };
     let mut sink = MemorySink::make(alloc, 1000, 1, &[])?;
-    let words = words_of(alloc, "replay pair script")?;
+    let words = words_of(alloc, "replay pair pair script")?;
     let status = preempt(alloc, words.as_slice(), &mut shelf, &mut sink);
     assert_eq!(rt; status.number(), 0);
     assert_eq!(rt; sink.octets(), EXAMPLE_TRACE.as_bytes());

@@ -1,0 +1,58 @@
+//! Links whose modes and rings tell. Checks are the CRC-32 of the octets before them by another program.
+
+use crate::plants::{NARROW, OFF, TWO_ROWS};
+use crate::running::assert_trace_over;
+use std::test::Fail;
+
+/// Where a link doesn't preempt, an express frame waits for the end of a flow's frame of the greatest size.
+#[test]
+fn a_link_that_does_not_preempt(rt: HostRuntime) -> Result<(), Fail> {
+    let alloc = rt.alloc();
+    let head = "0 enter a>b 0 0
+0 begin a>b 0 E 0 0
+20 enter a>b 6 1
+1530 ended a>b 0 1522 ea1b955a
+1530 arrive a>b 0 frame
+";
+    let delivered = "1530 deliver b 0 0200000000010200000000008100001488b500000000";
+    let tail = "ea1b955a
+1542 begin a>b 1 E 1 0
+1614 ended a>b 1 64 7fcde95f
+1614 arrive a>b 1 frame
+1614 deliver b 1 0200000000010200000000008100c00a88b50000000105060708090a0b0c0d0e0f101112131415161718191a1b1c1d1e1f202122232425262728292a7fcde95f
+2000 end 2 2 0
+";
+    let mut trace = String::new(alloc);
+    trace.push_str(head)?;
+    trace.push_str(delivered)?;
+    for place in 4..1500u32 {
+        let octet = place % 256;
+        trace.push_str(format!(in alloc; "{octet:02x}")?.as_str())?;
+    }
+    trace.push_str(tail)?;
+    let script = "send 0 y 1522\nsend 20 x 64\nuntil 2000\n";
+    assert_trace_over(&rt, alloc, (OFF, TWO_ROWS), script, trace.as_str())?;
+    Ok(())
+}
+
+/// A frame has left its ring once its first octet has begun.
+#[test]
+fn rings_of_one_frame(rt: HostRuntime) -> Result<(), Fail> {
+    let script = "send 0 x 64\nsend 0 x 64\nsend 10 x 64\nsend 20 x 64\nuntil 200\n";
+    let trace = "0 enter a>b 6 0
+0 dropped a>b 6 1
+0 begin a>b 0 E 0 0
+10 enter a>b 6 2
+20 dropped a>b 6 3
+72 ended a>b 0 64 d9064e6c
+72 arrive a>b 0 frame
+72 deliver b 0 0200000000010200000000008100c00a88b5000000000405060708090a0b0c0d0e0f101112131415161718191a1b1c1d1e1f20212223242526272829d9064e6c
+84 begin a>b 1 E 2 0
+156 ended a>b 1 64 ead93e25
+156 arrive a>b 1 frame
+156 deliver b 2 0200000000010200000000008100c00a88b500000002060708090a0b0c0d0e0f101112131415161718191a1b1c1d1e1f202122232425262728292a2bead93e25
+200 end 4 2 2
+";
+    assert_trace_over(&rt, rt.alloc(), (NARROW, TWO_ROWS), script, trace)?;
+    Ok(())
+}
