@@ -24,12 +24,8 @@ use Rattle.pre_cli.specs.DueReplays.{Outcome, gone, refused, runs, ComeTo, IsRep
 use Rattle.pre_cli.specs.Negotiating.{first_negotiating_link}
 use Rattle.pre_cli.specs.Replaying.{negotiating_status, IsRunNetIn, RunNetRefused, IsScriptIn, ScriptRefused, IsScenarioIn, RefusedIn, IsGoneFrom, GoneIn, ReplayingCause}
 use Rattle.pre_cli.specs.Words.{ReplayWords}
-use Rattle.pre_cli.proofs.Alike.{network_same, streams_same}
-use Rattle.pre_cli.proofs.Texts.{Refuses, Reads, refused_once, refused_not_read, read_once, refused_there, read_there}
-use Rattle.pre_cli.proofs.Texts as texts
-
-pub some_same : {A : Type 0} (x y : A) → Some x ≡ Some y → x ≡ y
-some_same = texts.some_same
+use Rattle.pre_cli.proofs.OneReading.{one_network, one_streams}
+use Rattle.pre_cli.proofs.Texts.{some_same, Refuses, Reads, refused_once, refused_not_read, read_once, refused_there, read_there}
 
 -- what is said of told files, at the files that are told
 pub told_as : (o : Outside) (told : Told) (P : Told → Told → Type 0) → TellsFiles o told → WhereTold o.told_before o.told_after P → (after : Told) × P told after
@@ -62,7 +58,7 @@ module _ (word : List ℕ) (files : Files) where
 
   net_once : (net other : Network) → IsNetIn word net files → IsNetIn word other files → net ≡ other
   net_once net other p q =
-      network_same net other (read_once file.Net network_of topo_status (text_named pair_network word files) (parts_of net) (parts_of other) (net_reads net p) (net_reads other q))
+      one_network net other (read_once file.Net network_of topo_status (text_named pair_network word files) (parts_of net) (parts_of other) (net_reads net p) (net_reads other q))
 
   net_not : (s : Status) (net : Network) → NetRefused word s files → IsNetIn word net files → ⊥
   net_not s net p q = refused_not_read file.Net network_of topo_status (text_named pair_network word files) s (parts_of net) (net_refuses s p) (net_reads net q)
@@ -104,7 +100,7 @@ module _ (word : List ℕ) (net : Network) (files : Files) where
 
   streams_once : (streams other : Streams) → AreStreamsIn word net streams files → AreStreamsIn word net other files → streams ≡ other
   streams_once streams other p q =
-      streams_same streams other
+      one_streams streams other
       (read_once file.Streams (streams_of net) stream_status (text_named pair_streams word files) (map row_parts streams.rows) (map row_parts other.rows) (streams_read streams p) (streams_read other q))
 
   streams_not : (s : Status) (streams : Streams) → StreamsRefused word net s files → AreStreamsIn word net streams files → ⊥

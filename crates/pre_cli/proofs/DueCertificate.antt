@@ -1,5 +1,5 @@
 -- The cause of an answer leaves no other, where a network's text isn't there or is refused.
-use Rattle.std.proofs.Common.{◌≡◌, ◌⊎◌, inl, inr, ℕ, ◌<◌, ◌≤◌, List, length, Some, None, Result, Ok, Err, refl, sym, ◌∙◌, ap, subst, arith}
+use Rattle.std.proofs.Common.{◌≡◌, ◌⊎◌, inl, inr, ℕ, ◌<◌, ◌≤◌, List, length, Some, None, refl, sym, ◌∙◌, ap, subst, arith}
 use Rattle.std.proofs.lemmas.Option.{none-some}
 use Rattle.pre_base.specs.Shelves.{Told, Files}
 use Rattle.pre_topo.specs.declared.network.Network.{Network}
@@ -10,23 +10,8 @@ use Rattle.pre_cli.specs.Scripts.{max_file}
 use Rattle.pre_cli.specs.Answers.{Outside}
 use Rattle.pre_cli.specs.Due.{GivesUp, TellsFiles}
 use Rattle.pre_cli.specs.Certifying.{text_named, topo_status, OfFiles, IsNetIn, NetRefused, AreBothIn, RefusedIn, GoneIn, HasBoth, CertifyingCause, pair_network}
-use Rattle.pre_cli.proofs.DueAnswers.{some_same, told_as}
-
-is_ok : {A B : Type 0} → Result A B → Type 0
-is_ok (Ok x) = Unit {0}
-is_ok (Err e) = ⊥
-
-pub ok_err : {A B : Type 0} (r : Result A B) (x : A) (e : B) → r ≡ Ok x → r ≡ Err e → ⊥
-unfolding is_ok
-ok_err r x e p q = subst is_ok (sym p ∙ q) tt
-
-err_or : {A B : Type 0} → Result A B → B → B
-err_or (Ok x) d = d
-err_or (Err e) d = e
-
-pub err_same : {A B : Type 0} (r : Result A B) (e f : B) → r ≡ Err e → r ≡ Err f → e ≡ f
-unfolding err_or
-err_same r e f p q = ap (λ x. err_or x e) (sym p ∙ q)
+use Rattle.pre_cli.proofs.DueAnswers.{told_as}
+use Rattle.pre_cli.proofs.Texts.{err_same, ok_err, some_same}
 
 pub same_text : (built_in word x y : List ℕ) (files : Files) → text_named built_in word files ≡ Some x → text_named built_in word files ≡ Some y → x ≡ y
 same_text built_in word x y files p q = some_same x y (sym p ∙ q)

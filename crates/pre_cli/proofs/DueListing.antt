@@ -10,7 +10,8 @@ use Rattle.pre_cli.specs.Answers.{Outside}
 use Rattle.pre_cli.specs.Due.{GivesUp, TellsFiles}
 use Rattle.pre_cli.specs.Listed.{HasPackets, ListingCause}
 use Rattle.pre_cli.specs.DueListings.{TellsPackets, IsListingDue}
-use Rattle.pre_cli.proofs.DueAnswers.{some_same, told_as}
+use Rattle.pre_cli.proofs.DueAnswers.{told_as}
+use Rattle.pre_cli.proofs.Texts.{some_same}
 
 -- the first fault is one
 one_fault : (octets : List ℕ) (f g : Option (ℕ × ℕ)) → IsPacketDue octets f → IsPacketDue octets g → f ≡ g

@@ -1,5 +1,5 @@
 -- The cause of an answer leaves no other, where a network is read.
-use Rattle.std.proofs.Common.{◌≡◌, ◌≢◌, ◌⊎◌, inl, inr, ℕ, List, Some, None, Ok, Err, refl, sym, ◌∙◌, ap, subst, map, Result}
+use Rattle.std.proofs.Common.{◌≡◌, ◌≢◌, ◌⊎◌, inl, inr, ℕ, List, Some, None, refl, sym, ◌∙◌, ap, subst, map}
 use Rattle.std.proofs.lemmas.Option.{none-some}
 use Rattle.pre_base.specs.Shelves.{Told, Files}
 use Rattle.pre_topo.specs.declared.network.Network.{Network}
@@ -18,16 +18,9 @@ use Rattle.pre_cli.specs.Due.{GivesUp, TellsFiles}
 use Rattle.pre_cli.specs.Certifying.{text_named, stream_status, OfFiles, IsNetIn, AreStreamsIn, StreamsRefused, HasLeast, UnfitCause, AreBothIn, RefusedIn, GoneIn, HasBoth, CertifyingCause, pair_network, pair_streams}
 use Rattle.pre_cli.specs.DueCertificates.{IsCertified, IsDueForBoth, RefusesAs}
 use Rattle.pre_cli.proofs.DueAnswers.{told_as}
-use Rattle.pre_cli.proofs.DueCertificate.{ok_err, err_same, same_text, too_long, net_not, none_net}
+use Rattle.pre_cli.proofs.DueCertificate.{same_text, too_long, net_not, none_net}
 use Rattle.pre_cli.proofs.OneReading.{one_network, one_streams}
-
-ok_or : {A B : Type 0} → Result A B → A → A
-ok_or (Ok x) d = x
-ok_or (Err e) d = d
-
-ok_same : {A B : Type 0} (r : Result A B) (x y : A) → r ≡ Ok x → r ≡ Ok y → x ≡ y
-unfolding ok_or
-ok_same r x y p q = ap (λ z. ok_or z x) (sym p ∙ q)
+use Rattle.pre_cli.proofs.Texts.{err_same, ok_err, ok_same}
 
 -- a word is one network, and one list of streams for it
 same_network : (word : List ℕ) (net other : Network) (files : Files) → IsNetIn word net files → IsNetIn word other files → net ≡ other

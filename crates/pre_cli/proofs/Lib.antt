@@ -3,7 +3,6 @@ mod Numbers
 pub mod Runs
 pub mod Steps
 mod Texts
-mod Alike
 pub mod DueAnswers
 pub mod OneTrace
 pub mod PacketLines
