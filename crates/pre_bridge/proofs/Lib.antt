@@ -6,4 +6,5 @@ pub mod Results
 pub mod Standing
 pub mod Line
 pub mod TurnLemmas
+pub mod Takes
 pub mod NextArcs

@@ -2,7 +2,7 @@
 use Rattle.std.proofs.Common.{◌≡◌, ℕ, ◌<◌, ◌≤◌, ◌⊎◌, inl, inr, ◌&&◌, ◌||◌, not, Bool, true, false, cond, leb, eqb, List, [], ◌∷◌, Option, Some, None, refl, sym, ap, ap₂, ◌∙◌, arith, All, drop, get_or}
 use Rattle.std.specs.Prelude.{find, slice_get}
 use Rattle.std.specs.List.{list_all}
-use Rattle.std.proofs.lemmas.Bool.{le-leb, lt-leb, eq-eqb, ne_eqb, eqb-true, cases_eq, and_left, and_right, false≢true}
+use Rattle.std.proofs.lemmas.Bool.{le-leb, lt-leb, eq-eqb, ne_eqb, eqb-true, cases_eq, and_left, and_right, and_parts, false≢true}
 use Rattle.std.proofs.lemmas.List.Elements.{All-nil, All-cons, All-head, All-tail}
 use Rattle.pre_bridge.specs.Inside.{Entry, of_arc, is_due, comes_out, without_first}
 
@@ -46,22 +46,23 @@ all_of_arcs P (x ∷ xs) h = All-cons (λ (y : Entry). P y.arc y) x xs (here (eq
 abbrev pub oldest : ℕ → List Entry → Option Entry
 oldest j xs = slice_get (of_arc j xs) 0
 
-pub arc_of_oldest : (j : ℕ) (xs : List Entry) (w : Entry) → oldest j xs ≡ Some w → w.arc ≡ j
-arc_of_oldest j [] w e = absurd cc
-arc_of_oldest j (x ∷ xs) w e = go (eqb x.arc j) refl (arc_of_oldest j xs w) e
+-- what fails at one that is found doesn't hold of all
+pub not_all : (f p : Entry → Bool) (xs : List Entry) (w : Entry) → find p xs ≡ Some w → f w ≡ false → list_all f xs ≡ false
+not_all f p [] w e h = absurd cc
+not_all f p (x ∷ xs) w e h = go (p x) e (λ o. not_all f p xs w o h)
   where
-    go : (b : Bool) → eqb x.arc j ≡ b → (oldest j xs ≡ Some w → w.arc ≡ j) → slice_get (cond b (x ∷ of_arc j xs) (of_arc j xs)) 0 ≡ Some w → w.arc ≡ j
-    go true e ih f = let same : x ≡ w = cc in ap (λ (y : Entry). y.arc) (sym same) ∙ eqb-true x.arc j e
-    go false e ih f = ih f
-
--- what fails at the oldest one of an arc doesn't hold of all
-pub not_all : (f : Entry → Bool) (j : ℕ) (xs : List Entry) (w : Entry) → oldest j xs ≡ Some w → f w ≡ false → list_all f xs ≡ false
-not_all f j [] w e h = absurd cc
-not_all f j (x ∷ xs) w e h = go (eqb x.arc j) e (λ o. not_all f j xs w o h)
-  where
-    go : (b : Bool) → slice_get (cond b (x ∷ of_arc j xs) (of_arc j xs)) 0 ≡ Some w → (oldest j xs ≡ Some w → list_all f xs ≡ false) → (f x && list_all f xs) ≡ false
+    go : (b : Bool) → cond b (Some x) (find p xs) ≡ Some w → (find p xs ≡ Some w → list_all f xs ≡ false) → (f x && list_all f xs) ≡ false
     go true o ih = let same : x ≡ w = cc in and_left (f x) (list_all f xs) (ap f same ∙ h)
     go false o ih = and_right (f x) (list_all f xs) (ih o)
+
+-- what is found passes
+pub found_passes : (p : Entry → Bool) (xs : List Entry) (w : Entry) → find p xs ≡ Some w → p w ≡ true
+found_passes p [] w e = absurd cc
+found_passes p (x ∷ xs) w e = go (p x) refl e (found_passes p xs w)
+  where
+    go : (b : Bool) → p x ≡ b → cond b (Some x) (find p xs) ≡ Some w → (find p xs ≡ Some w → p w ≡ true) → p w ≡ true
+    go true is o ih = let same : x ≡ w = cc in ap p (sym same) ∙ is
+    go false is o ih = ih o
 
 -- ---- what comes out
 
@@ -95,11 +96,14 @@ others_stay t j i (x ∷ xs) ne = go (eqb x.arc j) (is_due t x) refl (others_sta
     go true false is ih = ap (λ l. cond (eqb x.arc i) (x ∷ l) l) ih
     go false d is ih = ap (λ l. cond (eqb x.arc i) (x ∷ l) l) ih
 
--- Where the oldest one of an arc is due and nothing due is of a lesser arc, what comes out is of that arc and due.
-pub comes_out_is : (t j : ℕ) (xs : List Entry) (w : Entry) → oldest j xs ≡ Some w → is_due t w ≡ true → All (λ x. is_due t x ≡ true → j ≤ x.arc) xs
+-- Where one of an arc is due and nothing due is of a lesser arc, what comes out is of that arc and due.
+pub comes_out_is : (t j : ℕ) (xs : List Entry) (w : Entry) → find (is_due_of t j) xs ≡ Some w → All (λ x. is_due t x ≡ true → j ≤ x.arc) xs
     → All (λ x. comes_out t xs x ≡ is_due_of t j x) xs
-comes_out_is t j xs w o h least = λ k d lt. each (get_or xs k d) (is_due t (get_or xs k d)) refl (least k d lt)
+comes_out_is t j xs w found least = λ k d lt. each (get_or xs k d) (is_due t (get_or xs k d)) refl (least k d lt)
   where
+    passes : (w.arc ≡ j) × (is_due t w ≡ true)
+    passes = let p = and_parts (eqb w.arc j) (is_due t w) (found_passes (is_due_of t j) xs w found) in (eqb-true w.arc j p.0, p.1)
+
     later : (a : ℕ) → All (λ x. is_due t x ≡ true → a ≤ x.arc) xs → list_all (λ x. not (is_due t x) || leb a x.arc) xs ≡ true
     later a from = all_true (λ x. not (is_due t x) || leb a x.arc) xs (λ k d lt. by (is_due t (get_or xs k d)) (get_or xs k d).arc (from k d lt))
       where
@@ -108,7 +112,7 @@ comes_out_is t j xs w o h least = λ k d lt. each (get_or xs k d) (is_due t (get
         by false n h = refl
 
     earlier : (a : ℕ) → j < a → list_all (λ x. not (is_due t x) || leb a x.arc) xs ≡ false
-    earlier a lt = not_all (λ x. not (is_due t x) || leb a x.arc) j xs w o (ap₂ (λ b n. not b || leb a n) h (arc_of_oldest j xs w o) ∙ lt-leb a j lt)
+    earlier a lt = not_all (λ x. not (is_due t x) || leb a x.arc) (is_due_of t j) xs w found (ap₂ (λ b n. not b || leb a n) passes.1 passes.0 ∙ lt-leb a j lt)
 
     each : (x : Entry) (b : Bool) → is_due t x ≡ b → (is_due t x ≡ true → j ≤ x.arc) → comes_out t xs x ≡ is_due_of t j x
     each x false is from = and_left (is_due t x) (list_all (λ y. not (is_due t y) || leb x.arc y.arc) xs) is ∙ sym (and_right (eqb x.arc j) (is_due t x) is)

@@ -1,21 +1,22 @@
 -- The next arc by the table of hops, and by the rows.
-use Rattle.std.proofs.Common.{◌≡◌, ◌≢◌, ℕ, zero, suc, ◌<◌, ◌⊎◌, inl, inr, ◌&&◌, Bool, true, false, cond, eqb, List, [], ◌∷◌, length, map, Option, Some, None, refl, sym, ap, subst, ◌∙◌, arith, AllPairs, get_or}
+use Rattle.std.proofs.Common.{◌≡◌, ◌↔◌, ℕ, zero, suc, ◌+◌, ◌<◌, ◌⊎◌, inl, inr, ◌&&◌, Bool, true, false, cond, eqb, List, [], ◌∷◌, length, map, Option, Some, None, refl, sym, ap, subst, ◌∙◌, arith, All, get_or}
 use Rattle.std.specs.Prelude.{find, slice_get}
 use Rattle.std.specs.List.{flat_map, zip}
-use Rattle.std.specs.Option.{option_map, option_or}
+use Rattle.std.specs.Option.{option_map, option_or, option_and_then}
 use Rattle.std.proofs.lemmas.Bool.{eqb-true, eq-eqb, and_parts, and_from, cases_order, false≢true}
-use Rattle.std.proofs.lemmas.Option.{slice_get_within, get_or_from_slice_get, same_Some}
-use Rattle.std.proofs.lemmas.List.{get_or_default}
+use Rattle.std.proofs.lemmas.Option.{slice_get_within, get_or_from_slice_get, same_Some, none-some}
 use Rattle.std.proofs.lemmas.List.Folds.{find-append}
 use Rattle.pre_base.specs.declared.numbers.NodeId.{NodeId}
 use Rattle.pre_base.specs.declared.numbers.ArcId.{ArcId}
 use Rattle.pre_topo.specs.declared.network.Network.{Network}
 use Rattle.pre_streams.specs.declared.rows.Row.{Row}
 use Rattle.pre_streams.specs.declared.rows.Streams.{Streams}
-use Rattle.pre_streams.specs.Hops.{TakesArcBy, VidTakesArc}
-use Rattle.pre_streams.specs.Fits.{Fits, SharesRoute}
+use Rattle.pre_streams.specs.Hops.{IsNextArc, TakesArc, TakesArcBy, VidTakesArc}
+use Rattle.pre_streams.specs.Fits.{Fits}
+use Rattle.pre_streams.specs.Rows.{IsRoute}
+use Rattle.circular_buffer.proofs.Places.{slice_get-some}
 use Rattle.pre_bridge.specs.declared.tables.Hop.{Hop}
-use Rattle.pre_bridge.specs.Table.{hops_of, is_from, next_arc}
+use Rattle.pre_bridge.specs.Table.{hops_of, is_from, next_arc, onward}
 
 abbrev hops : ℕ → List NodeId → List ArcId → List Hop
 hops vid route arcs = map (λ hop. record { node = hop.0; vid = vid; arc = hop.1 }) (zip route arcs)
@@ -103,43 +104,60 @@ missing_arc rows node vid arc e any = missing_hop rows node vid arc (go (find (i
 
 -- ---- rows that fit a network
 
--- A node stands once on a route, so one arc leaves it.
-one_place : (route : List NodeId) (arcs : List ArcId) (node : NodeId) (a b : ArcId) (i j : ℕ) → AllPairs (λ (m n : NodeId). m.0 ≢ n.0) route
-    → slice_get route i ≡ Some node → slice_get arcs i ≡ Some a → slice_get route j ≡ Some node → slice_get arcs j ≡ Some b → a ≡ b
-one_place route arcs node a b i j once f g h k = by (cases_order i j)
+pub is_next : (rows : List Row) (node : NodeId) (vid : ℕ) → IsNextArc rows node vid (next_arc rows node vid)
+is_next rows node vid = by (next_arc rows node vid) refl
   where
-    apart : (p q : ℕ) → slice_get route p ≡ Some node → slice_get route q ≡ Some node → p < q → ⊥
-    apart p q at bt lt = once p q node lt (slice_get_within route q node bt) (ap (λ (n : NodeId). n.0) (get_or_from_slice_get route p node node at ∙ sym (get_or_from_slice_get route q node node bt)))
+    by : (o : Option ArcId) → next_arc rows node vid ≡ o → IsNextArc rows node vid o
+    by None is = λ arc. missing_arc rows node vid arc is
+    by (Some arc) is = found_arc rows node vid arc is
 
-    by : (i ≡ j) ⊎ ((i < j) ⊎ (j < i)) → a ≡ b
-    by (inl same) = same_Some a b (sym g ∙ ap (slice_get arcs) same ∙ k)
-    by (inr (inl lt)) = absurd (apart i j f h lt)
-    by (inr (inr lt)) = absurd (apart j i h f lt)
+-- what is next from a node by a VID is what each row of the VID takes from there
+abbrev pub RowsFollow : Streams → Type 0
+RowsFollow streams = (node : NodeId) (vid : ℕ) (next : Option ArcId) → IsNextArc streams.rows node vid next
+    → All (λ r. r.vid ≡ vid → (arc : ArcId) → (next ≡ Some arc) ↔ TakesArc node arc r) streams.rows
 
-pub one_arc : (net : Network) (streams : Streams) (node : NodeId) (vid : ℕ) (a b : ArcId) → Fits net streams → VidTakesArc streams.rows node vid a → VidTakesArc streams.rows node vid b → a ≡ b
-one_arc net streams node vid a b fits (k, q, klt, kat, (kvid, (i, iroute, iarcs))) (l, r, llt, lat, (lvid, (j, jroute, jarcs))) =
-    let shared = share (cases_order k l) in
-    one_place q.route q.arcs node a b i j once iroute iarcs (ap (λ route. slice_get route j) shared.0 ∙ jroute) (ap (λ arcs. slice_get arcs j) shared.1 ∙ jarcs)
-  where
-    once : AllPairs (λ (m n : NodeId). m.0 ≢ n.0) q.route
-    once = subst (λ (p : Row). AllPairs (λ (m n : NodeId). m.0 ≢ n.0) p.route) kat (fits.each k q klt).route.once
+pub only_arc : (streams : Streams) → RowsFollow streams → (node : NodeId) (vid : ℕ) (arc : ArcId) → VidTakesArc streams.rows node vid arc → next_arc streams.rows node vid ≡ Some arc
+only_arc streams follow node vid arc (k, r, k_in, at, (r_vid, takes)) =
+    (follow node vid (next_arc streams.rows node vid) (is_next streams.rows node vid) k r k_in (ap (λ (q : Row). q.vid) at ∙ r_vid) arc).1 (subst (TakesArc node arc) (sym at) takes)
 
-    pair : (m n : ℕ) (x y : Row) → m < n → n < length streams.rows → get_or streams.rows m x ≡ x → get_or streams.rows n y ≡ y → SharesRoute x y
-    pair m n x y lt within at bt =
-        let first : get_or streams.rows m x ≡ x = at in
-        let second : get_or streams.rows n x ≡ y = get_or_default streams.rows n x y within ∙ bt in
-        subst (λ (z : Row). SharesRoute z y) first (subst (SharesRoute (get_or streams.rows m x)) second (fits.routes m n x lt within))
+-- ---- along a route
 
-    share : (k ≡ l) ⊎ ((k < l) ⊎ (l < k)) → (q.route ≡ r.route) × (q.arcs ≡ r.arcs)
-    share (inl same) =
-        let is : q ≡ r = sym kat ∙ ap (λ n. get_or streams.rows n q) same ∙ get_or_default streams.rows l q r llt ∙ lat in
-        (ap (λ (p : Row). p.route) is, ap (λ (p : Row). p.arcs) is)
-    share (inr (inl lt)) = pair k l q r lt llt kat lat (kvid ∙ sym lvid)
-    share (inr (inr lt)) = let t = pair l k r q lt klt lat kat (lvid ∙ sym kvid) in (sym t.0, sym t.1)
+module _ (net : Network) (streams : Streams) (fits : Fits net streams) (follow : RowsFollow streams) where
+  -- At the end of an arc of the route stands the node that the next one, if any, leaves.
+  next_along : (r : Row) → IsRoute net r.route r.arcs
+      → ((node : NodeId) (arc : ArcId) → (next_arc streams.rows node r.vid ≡ Some arc) ↔ TakesArc node arc r)
+      → (i : ℕ) (arc : ArcId) → slice_get r.arcs i ≡ Some arc → onward net streams arc.0 r.vid ≡ slice_get r.arcs (i + 1)
+  next_along r route takes i arc at =
+      let inside : i < length r.arcs = slice_get_within r.arcs i arc at in
+      let from = slice_get-some r.route i (omega (arith, inside, route.hops)) in
+      let to = slice_get-some r.route (i + 1) (omega (arith, inside, route.hops)) in
+      let leads = route.leads i arc from.0 to.0 at from.1 to.1 in
+      ap (option_and_then (λ a. next_arc streams.rows a.to r.vid)) leads.1
+      ∙ ap (λ node. next_arc streams.rows node r.vid) leads.3
+      ∙ by to.0 to.1 (slice_get r.arcs (i + 1)) refl (next_arc streams.rows to.0 r.vid) refl
+    where
+      -- a node stands once on the route
+      same_place : (node : NodeId) (j : ℕ) → slice_get r.route (i + 1) ≡ Some node → slice_get r.route j ≡ Some node → j ≡ i + 1
+      same_place node j here there = by_cases (cases_order j (i + 1))
+        where
+          apart : (p q : ℕ) → slice_get r.route p ≡ Some node → slice_get r.route q ≡ Some node → p < q → ⊥
+          apart p q p_node q_node less =
+              route.once p q node less (slice_get_within r.route q node q_node) (ap (λ (n : NodeId). n.0) (get_or_from_slice_get r.route p node node p_node ∙ sym (get_or_from_slice_get r.route q node node q_node)))
 
-pub only_arc : (net : Network) (streams : Streams) (node : NodeId) (vid : ℕ) (arc : ArcId) → Fits net streams → VidTakesArc streams.rows node vid arc → next_arc streams.rows node vid ≡ Some arc
-only_arc net streams node vid arc fits any = by (next_arc streams.rows node vid) refl
-  where
-    by : (o : Option ArcId) → next_arc streams.rows node vid ≡ o → next_arc streams.rows node vid ≡ Some arc
-    by None is = absurd (missing_arc streams.rows node vid arc is any)
-    by (Some a) is = is ∙ ap Some (one_arc net streams node vid a arc fits (found_arc streams.rows node vid a is) any)
+          by_cases : (j ≡ i + 1) ⊎ ((j < i + 1) ⊎ (i + 1 < j)) → j ≡ i + 1
+          by_cases (inl same) = same
+          by_cases (inr (inl less)) = absurd (apart j (i + 1) there here less)
+          by_cases (inr (inr more)) = absurd (apart (i + 1) j here there more)
+
+      by : (node : NodeId) → slice_get r.route (i + 1) ≡ Some node → (o : Option ArcId) → slice_get r.arcs (i + 1) ≡ o → (n : Option ArcId) → next_arc streams.rows node r.vid ≡ n
+          → next_arc streams.rows node r.vid ≡ slice_get r.arcs (i + 1)
+      by node here (Some next) is n found = (takes node next).1 (i + 1, here, is) ∙ sym is
+      by node here None is None found = found ∙ sym is
+      by node here None is (Some next) found =
+          let taken = (takes node next).0 found in
+          let place : taken.0 ≡ i + 1 = same_place node taken.0 here taken.1 in
+          absurd (none-some next (sym is ∙ ap (slice_get r.arcs) (sym place) ∙ taken.2))
+
+  pub along : All (λ r. (i : ℕ) (arc : ArcId) → slice_get r.arcs i ≡ Some arc → onward net streams arc.0 r.vid ≡ slice_get r.arcs (i + 1)) streams.rows
+  along k d k_in = next_along (get_or streams.rows k d) (fits.each k d k_in).route
+      (λ node arc. follow node (get_or streams.rows k d).vid (next_arc streams.rows node (get_or streams.rows k d).vid) (is_next streams.rows node (get_or streams.rows k d).vid) k d k_in refl arc)

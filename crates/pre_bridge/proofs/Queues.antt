@@ -79,8 +79,8 @@ one_out t j w xs ingresses ingress queues ordered e front due none =
     let is_first : oldest j xs ≡ Some found.0 = found.1 in
     let now_due : is_due t found.0 ≡ true = ap (λ (v : Waiting). leb v.due.0 t) found.2 ∙ due in
     let least : All (λ (x : Entry). is_due t x ≡ true → j ≤ x.arc) xs = all_inside (λ i v. leb v.due.0 t ≡ true → j ≤ i) xs ingresses queues by in
-    let same = find_same (comes_out t xs) (is_due_of t j) xs (comes_out_is t j xs found.0 is_first now_due least) in
     let out = first_due t j xs found.0 is_first now_due in
+    let same = find_same (comes_out t xs) (is_due_of t j) xs (comes_out_is t j xs found.0 out.0 least) in
     record {
       given = ap (option_map handed) (same.0 ∙ out.0) ∙ ap (λ (v : Waiting). Some (v.next, v.frame)) found.2;
       here = ap (of_arc j) same.1 ∙ out.1;

@@ -7,7 +7,7 @@ mod laws;
 mod relays;
 mod tables;
 
-pub use laws::{calls_law, next_arc_law, turn_law};
+pub use laws::{calls_law, next_arc_law, route_law, takes_law, turn_law};
 pub use relays::Relay;
 
 #[cfg(test)]
