@@ -1,7 +1,7 @@
 //! Links whose modes and rings tell. Checks are the CRC-32 of the octets before them by another program.
 
-use crate::plants::{NARROW, OFF, TWO_ROWS};
-use crate::running::assert_trace_over;
+use crate::plants::{FAR, NARROW, OFF, TWO_ROWS};
+use crate::running::{assert_trace_over, replayed_over, wide_sink};
 use std::test::Fail;
 
 /// Where a link doesn't preempt, an express frame waits for the end of a flow's frame of the greatest size.
@@ -54,5 +54,27 @@ fn rings_of_one_frame(rt: HostRuntime) -> Result<(), Fail> {
 200 end 4 2 2
 ";
     assert_trace_over(&rt, rt.alloc(), (NARROW, TWO_ROWS), script, trace)?;
+    Ok(())
+}
+
+/// A wire carries more frames at once than may stand in rings, at senders and in bridges, which are 22 here: of 60 frames that
+/// begin 84 ticks apart, the last one has ended at tick 5028 and the first one arrives at 6072.
+#[test]
+fn a_long_wire(rt: HostRuntime) -> Result<(), Fail> {
+    let alloc = rt.alloc();
+    let mut script = String::new(alloc);
+    for number in 0..60u32 {
+        script.push_str(format!(in alloc; "send {} x 64\n", 84 * number)?.as_str())?;
+    }
+    script.push_str("until 12000\n")?;
+    let mut sink = wide_sink(alloc)?;
+    let words = "replay net streams script";
+    let status = replayed_over(alloc, (FAR, TWO_ROWS), script.as_str(), words, &mut sink)?;
+    assert_eq!(rt; status.number(), 0);
+    let trace = std::str::from_utf8(sink.octets())?;
+    assert!(rt; trace.contains("\n5028 ended a>b 59 64 "));
+    assert!(rt; trace.contains("\n6072 arrive a>b 0 frame\n6072 deliver b 0 "));
+    assert!(rt; trace.contains("\n11028 arrive a>b 59 frame\n11028 deliver b 59 "));
+    assert!(rt; trace.ends_with("\n12000 end 60 60 0\n"));
     Ok(())
 }

@@ -8,6 +8,10 @@ pub const OFF: &str =
 pub const NARROW: &str =
     "express_from = 4\n[[node]]\nname = \"a\"\nkind = \"station\"\n[[node]]\nname = \"b\"\nkind = \"station\"\n[[link]]\nends = [\"a\", \"b\"]\ncost = 1\nmode = \"on\"\nrings = [1, 1, 1, 1, 1, 1, 1, 1]\n";
 
+/// The same, with a wire that takes 6000 ticks.
+pub const FAR: &str =
+    "express_from = 4\n[[node]]\nname = \"a\"\nkind = \"station\"\n[[node]]\nname = \"b\"\nkind = \"station\"\n[[link]]\nends = [\"a\", \"b\"]\ncost = 1\ndelay = 6000\nmode = \"on\"\nrings = [1, 1, 1, 1, 1, 1, 1, 1]\n";
+
 /// Two stations and a link that negotiates.
 pub const NEGOTIATED: &str =
     "express_from = 4\n[[node]]\nname = \"a\"\nkind = \"station\"\n[[node]]\nname = \"b\"\nkind = \"station\"\n[[link]]\nends = [\"a\", \"b\"]\ncost = 1\nmode = \"negotiate\"\nrings = [64, 64, 64, 64, 64, 64, 64, 64]\n";

@@ -4,7 +4,8 @@ use Rattle.std.specs.Prelude.{slice_get}
 use Rattle.std.proofs.lemmas.List.{drop-drop, length-drop}
 use Rattle.pre_trace.specs.Scenario.{Scenario}
 use Rattle.pre_trace.specs.History.{Begin, Ended}
-use Rattle.pre_sim.specs.declared.plans.Frame.{Frame}
+use Rattle.pre_rings.specs.Ports.{Port}
+use Rattle.pre_sim.specs.declared.lanes.Sending.{Sending}
 use Rattle.pre_sim.specs.declared.lanes.Flight.{Flight}
 use Rattle.pre_sim.specs.Stands.{IsFlying, AreFlying, IsLane}
 
@@ -29,18 +30,17 @@ first_flies w a begins ends n f fs flies = go (drop n ends) refl flies
     go [] is all = absurd all
     go (e ∷ es) is all = (e, at_drop ends n e es is, all.0)
 
-pub arrived_lane : (w : Scenario) (a : ℕ) (begins : List Begin) (ends : List Ended) (arrived : ℕ) (waits : ℕ → List ℕ) (waiting : List Frame) (sending : Option Flight) (free_from begun : ℕ) (f : Flight) (fs : List Flight)
-    → IsLane w a begins ends arrived waits waiting sending free_from begun (f ∷ fs) → IsLane w a begins ends (arrived + 1) waits waiting sending free_from begun fs
-arrived_lane w a begins ends arrived waits waiting sending free_from begun f fs is = record {
+-- the lane without the first flight
+pub arrived_lane : (w : Scenario) (a : ℕ) (begins : List Begin) (ends : List Ended) (arrived : ℕ) (waits : ℕ → List ℕ) (rings : Port) (sending : Option Sending) (free_from begun : ℕ) (f : Flight) (fs : List Flight)
+    → IsLane w a begins ends arrived waits rings sending free_from begun (f ∷ fs) → IsLane w a begins ends (arrived + 1) waits rings sending free_from begun fs
+arrived_lane w a begins ends arrived waits rings sending free_from begun f fs is = record {
   begun_is = is.begun_is;
   sent_is = is.sent_is;
   free = is.free;
   flies = subst (AreFlying w a begins fs) (drop-drop 1 arrived ends) (rest (drop arrived ends) is.flies);
   waits_are = is.waits_are;
   fits = is.fits;
-  frames = is.frames;
   apart = is.apart;
-  goes = is.goes;
   whole = is.whole;
 }
   where

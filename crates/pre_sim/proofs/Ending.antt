@@ -1,13 +1,14 @@
 -- The end of an mPacket, by what the lane says.
-use Rattle.std.proofs.Common.{ℕ, zero, suc, ◌≡◌, ◌≢◌, ◌==◌, ◌+◌, ◌*◌, ◌<◌, ◌≤◌, true, List, [], ◌∷◌, ◌++◌, length, take, drop, refl, sym, ◌∙◌, ap, inl, inr, arith, subst, Some, None}
+use Rattle.std.proofs.Common.{ℕ, ◌≡◌, ◌≢◌, ◌==◌, ◌+◌, ◌*◌, ◌<◌, ◌≤◌, true, List, [], ◌∷◌, ◌++◌, length, drop, refl, sym, ◌∙◌, ap, inl, inr, arith, subst, Some, None}
 use Rattle.std.specs.Prelude.{slice_get}
 use Rattle.std.specs.List.{AllByRecursion as Every}
 use Rattle.std.proofs.lemmas.Bool.Decides.{nat_tests}
 use Rattle.std.proofs.lemmas.List.{length-append}
-use Rattle.pre_frame.specs.Layout.{frame_of}
 use Rattle.pre_frame.specs.FrameFacts.{length-frame_of}
 use Rattle.pre_mpacket.specs.declared.packets.Kind.TheVariants as kind
-use Rattle.pre_trace.specs.Scenario.{Scenario, arc, FrameOf}
+use Rattle.pre_rings.specs.Ports.{Port}
+use Rattle.pre_trace.specs.declared.events.What.TheVariants as what
+use Rattle.pre_trace.specs.Scenario.{Scenario, arc, row, send, source, destination, FrameOf}
 use Rattle.pre_trace.specs.Moments.{Phase}
 use Rattle.pre_trace.specs.History.{PlainEvent, History, Begin, Ended}
 use Rattle.pre_trace.specs.Queries.{Begins, Ends}
@@ -15,36 +16,17 @@ use Rattle.pre_trace.specs.Octets.{WholeOf, whole_of}
 use Rattle.pre_trace.specs.Starts.{SizeOf}
 use Rattle.pre_trace.specs.Rules.{OneOrNone, EndDue, CheckOf, last_four, HappensIn}
 use Rattle.pre_trace.specs.Ordered.{IsOrdered, HaveSizes}
-use Rattle.pre_sim.specs.declared.plans.Frame.{Frame}
+use Rattle.pre_sim.specs.declared.lanes.Sending.{Sending}
 use Rattle.pre_sim.specs.declared.lanes.Flight.{Flight}
-use Rattle.pre_sim.specs.Spelled.{octets_of}
-use Rattle.pre_sim.specs.Stands.{IsFrameOf, IsSent, IsFlying, AreFlying, IsWholeBegin, IsLane}
+use Rattle.pre_sim.specs.Stands.{IsSent, IsFlying, AreFlying, IsWholeBegin, IsLane}
 use Rattle.pre_sim.proofs.Lists.{there, within, at_last, every-append, every_weaker, every_at, drop-append, each_empty, each_at}
 
 is_eq : (m n : ℕ) → m ≡ n → (m == n) ≡ true
 is_eq m n e = grind (arith, nat_tests)
 
--- the frame's octets are those of the script's frame
-pub octets_are : (w : Scenario) (a : ℕ) (f : Frame) → IsFrameOf w a f → octets_of f ≡ FrameOf w f.number.0
-octets_are w a f is = λ i. frame_of (is.destination i) (is.source i) (is.prio i) (is.vid i) f.number.0 (is.size i)
-
-pub size_is : (w : Scenario) (a : ℕ) (f : Frame) → IsFrameOf w a f → length (FrameOf w f.number.0) ≡ f.size
-size_is w a f is =
-    let low : 26 ≤ f.size = omega (arith, f.size_range) in
-    sym (ap length (octets_are w a f is)) ∙ length-frame_of f.destination.0 f.source.0 f.prio f.vid f.number.0 f.size low
-
-take_front : (xs ys : List ℕ) (n : ℕ) → n ≡ length xs → take n (xs ++ ys) ≡ xs
-take_front [] ys zero is = refl
-take_front [] ys (suc n) is = absurd (omega (arith, is))
-take_front (x ∷ xs) ys zero is = absurd (omega (arith, is))
-take_front (x ∷ xs) ys (suc n) is = ap (λ zs. x ∷ zs) (take_front xs ys n (omega (arith, is)))
-
--- the frame's octets at the front of others
-pub front_octets : (f : Frame) (into more : List ℕ) (size : ℕ) → size ≡ f.size → into ≡ octets_of f ++ more → take size into ≡ octets_of f
-front_octets f into more size is are =
-    let low : 26 ≤ f.size = omega (arith, f.size_range) in
-    let long : length (octets_of f) ≡ f.size = length-frame_of f.destination.0 f.source.0 f.prio f.vid f.number.0 f.size low in
-    ap (take size) are ∙ take_front (octets_of f) more size (is ∙ sym long)
+-- a frame is as long as its send says
+pub size_is : (w : Scenario) (n : ℕ) → 26 ≤ (send w n).send.size → length (FrameOf w n) ≡ (send w n).send.size
+size_is w n low = length-frame_of (destination w n) (source w n) (row w n).prio (row w n).vid n (send w n).send.size low
 
 module _ (w : Scenario) (h : History) (t a : ℕ) (order : IsOrdered w h a) (sizes : HaveSizes w h a)
     (on : Every (λ (b : Begin). b.arc ≡ a) (Begins h a)) (early : Every (λ (e : Ended). e.tick < t) (Ends h a)) (whole : Every IsWholeBegin (Begins h a)) where
@@ -67,55 +49,58 @@ module _ (w : Scenario) (h : History) (t a : ℕ) (order : IsOrdered w h a) (siz
   unfolding HappensIn
   none_ends all = each_empty (λ b fs. OneOrNone (EndDue w h t b) fs) (Begins h a) (λ i b at. inr (not_again i b (omega (arith, all, within (Begins h a) i b at)) at, refl))
 
-  module _ (flight : Flight) (is : IsSent w a (Begins h a) (Ends h a) flight) where
+  module _ (s : Sending) (is : IsSent w a (Begins h a) (Ends h a) s) (size : s.frame.size ≡ (send w s.frame.frame.0).send.size) (low : 26 ≤ s.frame.size) where
     abbrev b : Begin
     b = is.begin
 
     arc_is : b.arc ≡ a
     arc_is = every_at (λ (b : Begin). b.arc ≡ a) (Begins h a) (length (Ends h a)) b on is.last
 
-    whole_is : WholeOf w h b ≡ FrameOf w flight.frame.number.0
+    whole_is : WholeOf w h b ≡ FrameOf w s.frame.frame.0
     whole_is = ap (whole_of w h b) is.carries.what
 
-    long : length (WholeOf w h b) ≡ flight.frame.size
-    long = ap length whole_is ∙ size_is w a flight.frame is.carries.frame
+    long : length (WholeOf w h b) ≡ s.frame.size
+    long = ap length whole_is ∙ (size_is w s.frame.frame.0 (omega (arith, size, low)) ∙ sym size)
+
+    due_is : s.due.0 ≡ b.tick + (arc w a).cost * (s.frame.size + 8)
+    due_is = is.due ∙ ap (λ n. b.tick + (arc w a).cost * (n + 8)) (sym size)
 
     others : (i : ℕ) (c : Begin) → i ≢ length (Ends h a) → slice_get (Begins h a) i ≡ Some c → OneOrNone (EndDue w h t c) []
     others i c other at = inr (not_again i c (omega (arith, other, is.unended, within (Begins h a) i c at)) at, refl)
 
     -- the mPacket isn't due
-    pub not_yet : flight.due.0 ≢ t → HappensIn w h t (Phase.ends a) []
+    pub not_yet : s.due.0 ≢ t → HappensIn w h t (Phase.ends a) []
     unfolding HappensIn
     not_yet other =
         each_at (λ b fs. OneOrNone (EndDue w h t b) fs) (Begins h a) [] (length (Ends h a)) b is.last
         (inr (
           λ e due. other (
               let its : due.0 ≡ length (WholeOf w h b) = subst (λ k. SizeOf w h k b due.0) is.carries.kind due.1 in
-              let same : due.0 ≡ flight.frame.size = its ∙ long in
-              is.due ∙ subst (λ x. b.tick + (arc w x).cost * (flight.frame.size + 8) ≡ t) arc_is (subst (λ x. b.tick + (arc w b.arc).cost * (x + 8) ≡ t) same due.2)
+              let same : due.0 ≡ s.frame.size = its ∙ long in
+              due_is ∙ subst (λ x. b.tick + (arc w x).cost * (s.frame.size + 8) ≡ t) arc_is (subst (λ x. b.tick + (arc w b.arc).cost * (x + 8) ≡ t) same due.2)
               ),
           refl,
         )) others
 
     abbrev ended : Ended
-    ended = record { tick = t; arc = a; ord = flight.ord; size = flight.frame.size; check = last_four (octets_of flight.frame) }
+    ended = record { tick = t; arc = a; ord = s.ord; size = s.frame.size; check = last_four (FrameOf w s.frame.frame.0) }
 
-    check_is : CheckOf w h b flight.frame.size ≡ last_four (octets_of flight.frame)
+    check_is : CheckOf w h b s.frame.size ≡ last_four (FrameOf w s.frame.frame.0)
     check_is =
-        let all : (b.from + flight.frame.size == length (WholeOf w h b)) ≡ true = is_eq (b.from + flight.frame.size) (length (WholeOf w h b)) (omega (arith, is.carries.from, long)) in
-        rw all (ap last_four (whole_is ∙ sym (octets_are w a flight.frame is.carries.frame)))
+        let all : (b.from + s.frame.size == length (WholeOf w h b)) ≡ true = is_eq (b.from + s.frame.size) (length (WholeOf w h b)) (omega (arith, is.carries.from, long)) in
+        rw all (ap last_four whole_is)
 
-    event_is : PlainEvent.ended ended ≡ PlainEvent.ended (record { tick = t; arc = b.arc; ord = b.ord; size = flight.frame.size; check = CheckOf w h b flight.frame.size })
-    event_is = λ i. PlainEvent.ended (record { tick = t; arc = sym arc_is i; ord = sym is.carries.ord i; size = flight.frame.size; check = sym check_is i })
+    event_is : PlainEvent.ended ended ≡ PlainEvent.ended (record { tick = t; arc = b.arc; ord = b.ord; size = s.frame.size; check = CheckOf w h b s.frame.size })
+    event_is = λ i. PlainEvent.ended (record { tick = t; arc = sym arc_is i; ord = sym is.carries.its_ord i; size = s.frame.size; check = sym check_is i })
 
     -- the mPacket ends
-    pub ends_now : flight.due.0 ≡ t → HappensIn w h t (Phase.ends a) (PlainEvent.ended ended ∷ [])
+    pub ends_now : s.due.0 ≡ t → HappensIn w h t (Phase.ends a) (PlainEvent.ended ended ∷ [])
     unfolding HappensIn
     ends_now due =
-        let sized : SizeOf w h b.kind b flight.frame.size = subst (λ k. SizeOf w h k b flight.frame.size) (sym is.carries.kind) (sym long) in
-        let at : b.tick + (arc w b.arc).cost * (flight.frame.size + 8) ≡ t = subst (λ x. b.tick + (arc w x).cost * (flight.frame.size + 8) ≡ t) (sym arc_is) (sym is.due ∙ due) in
+        let sized : SizeOf w h b.kind b s.frame.size = subst (λ k. SizeOf w h k b s.frame.size) (sym is.carries.kind) (sym long) in
+        let at : b.tick + (arc w b.arc).cost * (s.frame.size + 8) ≡ t = subst (λ x. b.tick + (arc w x).cost * (s.frame.size + 8) ≡ t) (sym arc_is) (sym due_is ∙ due) in
         each_at (λ b fs. OneOrNone (EndDue w h t b) fs) (Begins h a) (PlainEvent.ended ended ∷ []) (length (Ends h a)) b is.last
-        (inl (PlainEvent.ended ended, (flight.frame.size, sized, at, event_is), refl)) others
+        (inl (PlainEvent.ended ended, (s.frame.size, sized, at, event_is), refl)) others
 
 -- ---- the lane after it
 
@@ -125,33 +110,31 @@ still_flying w a begins [] (x ∷ es) f e all is = absurd all
 still_flying w a begins (g ∷ fs) [] f e all is = absurd all
 still_flying w a begins (g ∷ fs) (x ∷ es) f e (here, more) is = (here, still_flying w a begins fs es f e more is)
 
-pub ended_lane : (w : Scenario) (a t : ℕ) (begins : List Begin) (ends : List Ended) (arrived : ℕ) (waits : ℕ → List ℕ) (waiting : List Frame) (flight : Flight) (free_from begun : ℕ) (flying : List Flight) (e : Ended)
-    → IsLane w a begins ends arrived waits waiting (Some flight) free_from begun flying → arrived ≤ length ends → ((i : ℕ) (b : Begin) → slice_get begins i ≡ Some b → b.ord ≡ i)
-    → Every (λ (e : Ended). e.tick < t) ends → e.tick ≡ t → e.ord ≡ flight.ord
-    → IsLane w a begins (ends ++ e ∷ []) arrived waits waiting None (t + 12 * (arc w a).cost) begun (flying ++ record { frame = flight.frame; ord = flight.ord; due = record { 0 = t + (arc w a).delay } } ∷ [])
-ended_lane w a t begins ends arrived waits waiting flight free_from begun flying e is few places early tick ord =
-    let s = is.sent_is in
+pub ended_lane : (w : Scenario) (a t : ℕ) (begins : List Begin) (ends : List Ended) (arrived : ℕ) (waits : ℕ → List ℕ) (rings : Port) (s : Sending) (free_from begun : ℕ) (flying : List Flight) (e : Ended) (f : Flight)
+    → IsLane w a begins ends arrived waits rings (Some s) free_from begun flying → arrived ≤ length ends → ((i : ℕ) (b : Begin) → slice_get begins i ≡ Some b → b.ord ≡ i)
+    → Every (λ (e : Ended). e.tick < t) ends → e.tick ≡ t → e.ord ≡ s.ord → f.frame ≡ s.frame.frame → f.ord ≡ s.ord → f.due.0 ≡ t + (arc w a).delay
+    → IsLane w a begins (ends ++ e ∷ []) arrived waits rings None (t + 12 * (arc w a).cost) begun (flying ++ f ∷ [])
+ended_lane w a t begins ends arrived waits rings s free_from begun flying e f is few places early tick ord its_frame its_ord its_due =
+    let sent = is.sent_is in
     let long : length (ends ++ e ∷ []) ≡ length ends + 1 = length-append ends (e ∷ []) in
     record {
       begun_is = is.begun_is;
-      sent_is = omega (arith, s.unended, long);
+      sent_is = omega (arith, sent.unended, long);
       free = record {
         behind = every-append (λ (x : Ended). x.tick + 12 * (arc w a).cost ≤ t + 12 * (arc w a).cost) ends (e ∷ [])
             (every_weaker (λ (x : Ended). x.tick < t) (λ (x : Ended). x.tick + 12 * (arc w a).cost ≤ t + 12 * (arc w a).cost) (λ x lt. omega (arith, lt)) ends early) (omega (arith, tick), tt);
         least = λ lt. (e, subst (λ n. slice_get (ends ++ e ∷ []) n ≡ Some e) (omega (arith, long)) (at_last ends e), ap (λ n. n + 12 * (arc w a).cost) (sym tick));
       };
-      flies = subst (AreFlying w a begins (flying ++ record { frame = flight.frame; ord = flight.ord; due = record { 0 = t + (arc w a).delay } } ∷ [])) (sym (drop-append arrived ends (e ∷ []) few))
-          (still_flying w a begins flying (drop arrived ends) (record { frame = flight.frame; ord = flight.ord; due = record { 0 = t + (arc w a).delay } }) e is.flies (record {
-            begin = s.begin;
-            begun = ap (slice_get begins) (sym s.carries.ord ∙ places (length ends) s.begin s.last) ∙ s.last;
-            ord = ord;
-            carries = record { ord = s.carries.ord; kind = s.carries.kind; what = s.carries.what; from = s.carries.from; frame = s.carries.frame };
-            due = ap (λ n. n + (arc w a).delay) (sym tick);
+      flies = subst (AreFlying w a begins (flying ++ f ∷ [])) (sym (drop-append arrived ends (e ∷ []) few))
+          (still_flying w a begins flying (drop arrived ends) f e is.flies (record {
+            begin = sent.begin;
+            begun = ap (slice_get begins) (its_ord ∙ (sym sent.carries.its_ord ∙ places (length ends) sent.begin sent.last)) ∙ sent.last;
+            ord = ord ∙ sym its_ord;
+            carries = record { its_ord = sent.carries.its_ord ∙ sym its_ord; kind = sent.carries.kind; what = sent.carries.what ∙ ap (λ n. what.Frame n) (sym its_frame); from = sent.carries.from };
+            due = its_due ∙ ap (λ n. n + (arc w a).delay) (sym tick);
           }));
       waits_are = is.waits_are;
       fits = is.fits;
-      frames = is.frames;
       apart = is.apart;
-      goes = is.goes;
       whole = is.whole;
     }

@@ -19,8 +19,7 @@ module _ (w : Scenario) (t : ℕ) (old : List Lane) where
   none_come = record {
     deliveries = refl;
     drops = refl;
-    kept = λ a. refl;
-    come = λ h news stand early. (refl, subst (λ g. LanesStand w g t old) (sym (append-nil h)) stand, subst (BeforeEntries t) (sym (append-nil h)) early);
+    come = λ h entries news stand early. (refl, subst (λ g. LanesStand w g t old entries) (sym (append-nil h)) stand, subst (BeforeEntries t) (sym (append-nil h)) early);
   }
 
   module _ (cs ds : List Coming) (mid : List Lane) (lost : ℕ) (es : History) (first : ComesPart w t cs old mid lost es) where
@@ -28,13 +27,12 @@ module _ (w : Scenario) (t : ℕ) (old : List Lane) where
     come_then new more fs second = record {
       deliveries = ap length (filter_map-append delivery_of es fs) ∙ (length-append (Deliveries es) (Deliveries fs) ∙ both first.deliveries second.deliveries);
       drops = sum first.drops second.drops ∙ sym (count_by-append is_dropped es fs);
-      kept = λ a. second.kept a ∙ first.kept a;
-      come = λ h news stand early.
-          let one = first.come h (new_front w h cs ds news) stand early in
+      come = λ h entries news stand early.
+          let one = first.come h entries (new_front w h cs ds news) stand early in
           let rest : AreNew w (h ++ es) ds = subst (λ g. AreNew w (h ++ g) ds) (sym one.0) (new_rest w t h cs ds news) in
-          let two = second.come (h ++ es) rest one.1 one.2 in (
+          let two = second.come (h ++ es) entries rest one.1 one.2 in (
             whole h one.0 two.0,
-            subst (λ g. LanesStand w g t new) (append_assoc h es fs) two.1,
+            subst (λ g. LanesStand w g t new entries) (append_assoc h es fs) two.1,
             subst (BeforeEntries t) (append_assoc h es fs) two.2,
           );
     }
@@ -51,10 +49,10 @@ module _ (w : Scenario) (t : ℕ) (old : List Lane) where
 
     -- some of the others
     pub front_then : (fs : History) → ComesFront w t ds mid fs → ComesFront w t (cs ++ ds) old (es ++ fs)
-    front_then fs front h news stand early =
-        let one = first.come h (new_front w h cs ds news) stand early in
+    front_then fs front h entries news stand early =
+        let one = first.come h entries (new_front w h cs ds news) stand early in
         let rest : AreNew w (h ++ es) ds = subst (λ g. AreNew w (h ++ g) ds) (sym one.0) (new_rest w t h cs ds news) in
-        let f = front (h ++ es) rest one.1 one.2 in (
+        let f = front (h ++ es) entries rest one.1 one.2 in (
           cs ++ f.0,
           f.1,
           ap (λ xs. cs ++ xs) f.2 ∙ sym (append_assoc cs f.0 f.1),
@@ -63,13 +61,13 @@ module _ (w : Scenario) (t : ℕ) (old : List Lane) where
 
   -- a front of these is one of these and others
   pub front_more : (cs ds : List Coming) (es : History) → ComesFront w t cs old es → ComesFront w t (cs ++ ds) old es
-  front_more cs ds es front h news stand early =
-      let f = front h (new_front w h cs ds news) stand early in
+  front_more cs ds es front h entries news stand early =
+      let f = front h entries (new_front w h cs ds news) stand early in
       (f.0, f.1 ++ ds, ap (λ xs. xs ++ ds) f.2 ∙ append_assoc f.0 f.1 ds, f.3)
 
-  -- all of them are a front
-  pub whole_front : (cs : List Coming) (new : List Lane) (lost : ℕ) (es : History) → ComesPart w t cs old new lost es → ComesFront w t cs old es
-  whole_front cs new lost es part h news stand early = (cs, [], sym (append-nil cs), (part.come h news stand early).0)
+  -- none of them is a front
+  pub none_front : (cs : List Coming) → ComesFront w t cs old []
+  none_front cs h entries news stand early = ([], cs, refl, refl)
 
 -- the same frames, said in another way
 pub comes_same : (w : Scenario) (t : ℕ) (old new : List Lane) (cs ds : List Coming) (lost : ℕ) (es : History) → cs ≡ ds → ComesPart w t cs old new lost es → ComesPart w t ds old new lost es

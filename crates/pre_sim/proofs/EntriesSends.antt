@@ -1,21 +1,23 @@
 -- The frames that come to a ring at a tick are those that bridges hand on, and those of its sends.
-use Rattle.std.proofs.Common.{ℕ, zero, suc, ◌≡◌, ◌≢◌, ◌==◌, ◌+◌, ◌<◌, ◌≤◌, true, false, List, [], ◌∷◌, ◌++◌, length, drop, refl, sym, ◌∙◌, ap, arith, filter_map, flat_map, append_assoc}
+use Rattle.std.proofs.Common.{ℕ, zero, suc, ◌≡◌, ◌≢◌, ◌==◌, ◌+◌, ◌<◌, ◌≤◌, true, false, List, [], ◌∷◌, ◌++◌, length, drop, map, refl, sym, ◌∙◌, ap, arith, filter_map, flat_map, append_assoc}
 use Rattle.std.specs.Prelude.{slice_index_or}
 use Rattle.std.specs.List.{AllByRecursion as Every}
-use Rattle.std.specs.Option.{option_map_or}
 use Rattle.std.proofs.lemmas.Bool.Decides.{nat_tests}
-use Rattle.std.proofs.lemmas.List.{append-nil}
+use Rattle.std.proofs.lemmas.List.{append-nil, map-append, length-append, take_all}
 use Rattle.pre_script.specs.declared.scripts.SendLine.{SendLine}
 use Rattle.pre_trace.specs.Scenario.{Scenario, no_arc, send, no_send}
 use Rattle.pre_trace.specs.History.{Arrive, History}
-use Rattle.pre_trace.specs.Queries.{Arrivals}
+use Rattle.pre_trace.specs.Queries.{Begins, Arrivals}
 use Rattle.pre_trace.specs.Ordered.{IsOrdered}
-use Rattle.pre_trace.specs.Comings.{Coming, below, relayed, sends_from, Comings}
+use Rattle.pre_trace.specs.Comings.{below, relayed, sends_from, Comings}
+use Rattle.pre_bridge.specs.Inside.{Entry, of_arc}
+use Rattle.pre_bridge.specs.Turns.{dues_of_arc, dues}
+use Rattle.pre_bridge.specs.Turns as turns
 use Rattle.pre_sim.specs.declared.lanes.Lane.{Lane}
-use Rattle.pre_sim.specs.Stands.{LanesStand}
-use Rattle.pre_sim.specs.Sends.{inside_at, due_at, dues, sent_frame, sent_frames}
+use Rattle.pre_sim.specs.Stands.{AreInside, LanesStand}
+use Rattle.pre_sim.specs.Sends.{coming_of, handed_on, sent_frame, sent_frames}
 use Rattle.pre_sim.proofs.Lists.{there}
-use Rattle.pre_sim.proofs.Inside.{arrivals_rise, relayed_are}
+use Rattle.pre_sim.proofs.Inside.{AreRising, arrivals_rise, relayed_are, few_due}
 
 is_eq : (m n : ℕ) → m ≡ n → (m == n) ≡ true
 is_eq m n e = grind (arith, nat_tests)
@@ -29,43 +31,43 @@ flat_then : {X Y : Type 0} (f : X → List Y) (xs ys : List X) → flat_map f (x
 flat_then f [] ys = refl
 flat_then f (x ∷ xs) ys = ap (λ zs. f x ++ zs) (flat_then f xs ys) ∙ sym (append_assoc (f x) (flat_map f xs) (flat_map f ys))
 
--- those of one more arc
-pub dues_more : (t : ℕ) (lanes : List Lane) (n : ℕ) → dues t lanes (n + 1) ≡ dues t lanes n ++ due_at t (inside_at lanes n)
-dues_more t lanes n =
-    let same : n + 1 ≡ suc n = omega arith in
-    ap (dues t lanes) same ∙ (flat_then (λ a. due_at t (inside_at lanes a)) (below n) (n ∷ []) ∙ ap (λ xs. dues t lanes n ++ xs) (append-nil (due_at t (inside_at lanes n))))
+-- those of one more
+flat_more : {Y : Type 0} (f : ℕ → List Y) (ns : List ℕ) (n : ℕ) → flat_map f (ns ++ n ∷ []) ≡ flat_map f ns ++ f n
+flat_more f ns n = flat_then f ns (n ∷ []) ∙ ap (λ xs. flat_map f ns ++ xs) (append-nil (f n))
 
--- those of the rest
-pub dues_rest : (t : ℕ) (lanes : List Lane) (n k : ℕ) → (rest : List Coming) × (dues t lanes (n + k) ≡ dues t lanes n ++ rest)
-dues_rest t lanes n zero = let same : n + 0 ≡ n = omega arith in ([], ap (dues t lanes) same ∙ sym (append-nil (dues t lanes n)))
-dues_rest t lanes n (suc k) =
-    let before = dues_rest t lanes n k in
-    let next : n + suc k ≡ n + k + 1 = omega arith in (
-      before.0 ++ due_at t (inside_at lanes (n + k)),
-      ap (dues t lanes) next ∙ (dues_more t lanes (n + k) ∙ (ap (λ xs. xs ++ due_at t (inside_at lanes (n + k))) before.1 ∙ append_assoc (dues t lanes n) before.0 (due_at t (inside_at lanes (n + k))))),
-    )
-
--- where the bridges hold the same, they hand on the same
-pub same_dues : (t : ℕ) (old new : List Lane) (a : ℕ) → inside_at new a ≡ inside_at old a → due_at t (inside_at new a) ≡ due_at t (inside_at old a)
-same_dues t old new a is = ap (due_at t) is
-
-module _ (w : Scenario) (h : History) (t : ℕ) (lanes : List Lane) (many : length lanes ≡ length w.net.arcs) (stand : LanesStand w h t lanes)
+module _ (w : Scenario) (h : History) (t : ℕ) (lanes : List Lane) (entries : List Entry) (many : length lanes ≡ length w.net.arcs) (stand : LanesStand w h t lanes entries)
     (order : (a : ℕ) → a < length w.net.arcs → IsOrdered w h a) (early : (a : ℕ) → a < length w.net.arcs → Every (λ (x : Arrive). x.tick < t + 1) (Arrivals h a)) where
-  relayed_of : (a : ℕ) → a < length w.net.arcs → filter_map (relayed w h t a) (Arrivals h a) ≡ due_at t (inside_at lanes a)
-  relayed_of a lt =
-      let lane = there lanes a (omega (arith, lt, many)) in
-      let rules = w.net.rules.each_arc a no_arc lt in
-      let here : inside_at lanes a ≡ lane.0.inside.items = ap (λ o. option_map_or (λ (l : Lane). l.inside.items) o []) lane.1 in
-      relayed_are w h t a lane.0.inside.items (arrivals_rise w h (t + 1) a (order a lt) rules.cost.0 (early a lt)) (stand a lane.0 lane.1).inside ∙ ap (due_at t) (sym here)
+  rise : (a : ℕ) → a < length w.net.arcs → AreRising (Arrivals h a)
+  rise a lt = let rules = w.net.rules.each_arc a no_arc lt in arrivals_rise w h (t + 1) a (order a lt) rules.cost.0 (early a lt)
 
-  relays_are : (n : ℕ) → n ≤ length w.net.arcs → flat_map (λ a. filter_map (relayed w h t a) (Arrivals h a)) (below n) ≡ dues t lanes n
+  inside_at : (a : ℕ) → a < length w.net.arcs → AreInside w a (Begins h a) (Arrivals h a) t (of_arc a entries)
+  inside_at a lt = let lane = there lanes a (omega (arith, lt, many)) in (stand a lane.0 lane.1).inside
+
+  relays_are : (n : ℕ) → n ≤ length w.net.arcs → flat_map (λ a. filter_map (relayed w h t a) (Arrivals h a)) (below n) ≡ map coming_of (flat_map (dues_of_arc t entries) (turns.below n))
   relays_are zero le = refl
   relays_are (suc n) le =
-      flat_then (λ a. filter_map (relayed w h t a) (Arrivals h a)) (below n) (n ∷ [])
-      ∙ ((λ i. relays_are n (omega (arith, le)) i ++ (relayed_of n (omega (arith, le)) i ++ [])) ∙ sym (flat_then (λ a. due_at t (inside_at lanes a)) (below n) (n ∷ [])))
+      let here : filter_map (relayed w h t n) (Arrivals h n) ≡ map coming_of (dues_of_arc t entries n) = relayed_are w h t n (of_arc n entries) (rise n (omega (arith, le))) (inside_at n (omega (arith, le))) in
+      let before = relays_are n (omega (arith, le)) in
+      flat_more (λ a. filter_map (relayed w h t a) (Arrivals h a)) (below n) n
+      ∙ ((λ i. before i ++ here i)
+      ∙ (sym (map-append coming_of (flat_map (dues_of_arc t entries) (turns.below n)) (dues_of_arc t entries n)) ∙ ap (map coming_of) (sym (flat_more (dues_of_arc t entries) (turns.below n) n))))
 
-  pub comings_are : Comings w h t ≡ dues t lanes (length w.net.arcs) ++ sends_from w t 0 w.script.sends
-  comings_are = ap (λ cs. cs ++ sends_from w t 0 w.script.sends) (relays_are (length w.net.arcs) (omega arith))
+  -- of each arc one at most
+  few_dues : (n : ℕ) → n ≤ length w.net.arcs → length (flat_map (dues_of_arc t entries) (turns.below n)) ≤ n
+  few_dues zero le = omega arith
+  few_dues (suc n) le =
+      let here : length (dues_of_arc t entries n) ≤ 1 = few_due w h t n (of_arc n entries) (rise n (omega (arith, le))) (inside_at n (omega (arith, le))) in
+      let before = few_dues n (omega (arith, le)) in
+      let sum = length-append (flat_map (dues_of_arc t entries) (turns.below n)) (dues_of_arc t entries n) in
+      omega (arith, ap length (flat_more (dues_of_arc t entries) (turns.below n) n), sum, here, before)
+
+  pub few_handed : length (dues t (length w.net.arcs) entries) ≤ length w.net.arcs
+  few_handed = few_dues (length w.net.arcs) (omega arith)
+
+  pub comings_are : Comings w h t ≡ handed_on w t entries ++ sends_from w t 0 w.script.sends
+  comings_are =
+      ap (λ cs. cs ++ sends_from w t 0 w.script.sends)
+      (relays_are (length w.net.arcs) (omega arith) ∙ ap (map coming_of) (sym (take_all (length w.net.arcs) (dues t (length w.net.arcs) entries) few_handed)))
 
 -- ---- the sends of the tick
 

@@ -1,6 +1,6 @@
 -- What becomes of a frame that comes to its ring, told to a history in which all is earlier.
-use Rattle.std.proofs.Common.{ℕ, ◌≡◌, ◌==◌, ◌&&◌, ◌<◌, ◌≤◌, not, Bool, true, false, List, [], ◌∷◌, ◌++◌, refl, sym, ◌∙◌, ap, subst, Some, None, map, filter, Result, Ok, Err}
-use Rattle.std.specs.Prelude.{if◌then◌else◌}
+use Rattle.std.proofs.Common.{ℕ, ◌≡◌, ◌==◌, ◌&&◌, ◌<◌, ◌≤◌, not, Bool, true, false, List, [], ◌∷◌, ◌++◌, refl, sym, ◌∙◌, ap, arith, subst, Some, None, map, filter, Result, Ok, Err}
+use Rattle.std.specs.Prelude.{if◌then◌else◌, OnOk}
 use Rattle.std.specs.List.{list_any, AllByRecursion as Every, cons_option}
 use Rattle.std.proofs.Math.Path.{fun_ext}
 use Rattle.std.proofs.lemmas.List.{append-nil, map-append}
@@ -11,6 +11,8 @@ use Rattle.pre_trace.specs.Selected.{RingEntry, what_is, entry_on, entry_of, beg
 use Rattle.pre_trace.specs.Queries.{Begins, Entries}
 use Rattle.pre_sim.specs.declared.halts.Halt.{Halt}
 use Rattle.pre_sim.specs.declared.halts.Halt.TheVariants.{Stopped, Memory}
+use Rattle.pre_sim.specs.Telling.{HasCause}
+use Rattle.pre_sim.specs.Told.{tells_nothing}
 use Rattle.pre_sim.specs.Parts.{TellsPart}
 use Rattle.pre_sim.specs.Stands.{has_begun, StillWaiting}
 use Rattle.pre_sim.specs.Sends.{BeforeEntries}
@@ -22,6 +24,20 @@ pub says_more : {T : Type 0} (net : Network) (r : Result T Halt) (old new : List
 says_more net (Ok x) old new torn Whole Whole' Front Front' whole front p = (p.0, p.1, whole x p.0 p.2)
 says_more net (Err Memory) old new torn Whole Whole' Front Front' whole front p = (p.0, p.1, front p.0 p.2)
 says_more net (Err Stopped) old new torn Whole Whole' Front Front' whole front p = (p.0, p.1, p.2, p.3, p.4, front (p.0 ++ p.1 ∷ []) p.5)
+
+-- what all of it says, where it was told whole
+pub whole_says : {T : Type 0} {P : Type 0} (net : Network) (r : Result T Halt) (old new : List ℕ → History → Type 0) (torn : List ℕ → History → PlainEvent → Type 0) (Whole : T → History → Type 0) (Front : History → Type 0)
+    → ((x : T) (es : History) → Whole x es → P) → TellsPart net r old new torn Whole Front → OnOk r P
+whole_says net (Ok x) old new torn Whole Front says p = says x p.0 p.2
+whole_says net (Err d) old new torn Whole Front says p = tt
+
+-- want of memory before anything was told
+pub told_none : {T : Type 0} (net : Network) (r : Result T Halt) (took : List ℕ → History → Type 0) (torn : List ℕ → History → PlainEvent → Type 0) (Whole : T → History → Type 0) (Front : History → Type 0) (d : Halt)
+    → r ≡ Err d → d ≡ Memory → Front [] → TellsPart net r took took torn Whole Front
+told_none net r took torn Whole Front d is memory front = subst (λ x. TellsPart net x took took torn Whole Front) (sym (is ∙ ap Err memory)) ([], tells_nothing net took, front)
+
+pub caused_by_memory : {T : Type 0} (r : Result T Halt) (n : ℕ) (d : Halt) → r ≡ Err d → d ≡ Memory → HasCause n n r
+caused_by_memory r n d is memory = subst (HasCause n n) (sym (is ∙ ap Err memory)) (record { later = omega arith; stopped = tt })
 
 -- ---- a drop leaves what waits
 

@@ -7,7 +7,7 @@ use Rattle.pre_trace.specs.Scenario.{Scenario, arc}
 use Rattle.pre_trace.specs.History.{History, Begin, Ended}
 use Rattle.pre_trace.specs.Queries.{Begins, Ends, Packet, Packets, packet, end_of, IsUnderWay, Occupied}
 use Rattle.pre_trace.specs.Ordered.{IsOrdered}
-use Rattle.pre_sim.specs.declared.lanes.Flight.{Flight}
+use Rattle.pre_sim.specs.declared.lanes.Sending.{Sending}
 use Rattle.pre_sim.specs.Stands.{IsSent, IsFreeFrom}
 use Rattle.pre_sim.proofs.Lists.{there, within, every_at, found_at, any_at, past_end, map_at, at_map}
 
@@ -51,8 +51,8 @@ module _ (w : Scenario) (h : History) (t a : ℕ) (order : IsOrdered w h a) wher
   packet_at i b at = at_map (packet h a) (Begins h a) i b at
 
   -- an mPacket is being sent
-  pub occupied_sending : (flight : Flight) (is : IsSent w a (Begins h a) (Ends h a) flight) → is.begin.tick < t → Occupied w h a t
-  occupied_sending flight is before =
+  pub occupied_sending : (s : Sending) (is : IsSent w a (Begins h a) (Ends h a) s) → is.begin.tick < t → Occupied w h a t
+  occupied_sending s is before =
       let none : end_of h a is.begin.ord ≡ None = end_at (length (Ends h a)) is.begin is.last ∙ past_end (Ends h a) (length (Ends h a)) (omega arith) in
       any_at (IsUnderWay w h a t) (Packets h a) (length (Ends h a)) (packet h a is.begin) (packet_at (length (Ends h a)) is.begin is.last)
       (before, subst (λ o. MatchOption o ⊤ (λ e. t < e.tick + 12 * (arc w a).cost)) (sym none) tt)

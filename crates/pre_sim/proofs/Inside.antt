@@ -1,5 +1,5 @@
 -- The frames inside the bridge at an arc's end: as mPackets begin and arrive, at the end of a tick, and which of them come out.
-use Rattle.std.proofs.Common.{ℕ, zero, suc, ◌≡◌, ◌≢◌, ◌⊎◌, ◌==◌, ◌&&◌, ◌+◌, ◌<◌, ◌≤◌, Bool, true, false, List, [], ◌∷◌, ◌++◌, length, take, drop, refl, sym, ◌∙◌, ap, inl, inr, arith, subst, Option, Some, None, map, filter_map}
+use Rattle.std.proofs.Common.{ℕ, zero, suc, ◌≡◌, ◌≢◌, ◌⊎◌, ◌==◌, ◌&&◌, ◌+◌, ◌<◌, ◌≤◌, nat_le, not, filter, Bool, true, false, List, [], ◌∷◌, ◌++◌, length, take, drop, refl, sym, ◌∙◌, ap, inl, inr, arith, subst, Option, Some, None, map, filter_map}
 use Rattle.std.specs.Prelude.{slice_get, if◌then◌else◌, option_map, option_and_then}
 use Rattle.std.specs.List.{cons_option, AllByRecursion as Every}
 use Rattle.std.proofs.lemmas.Bool.{cases_eq}
@@ -12,9 +12,9 @@ use Rattle.pre_trace.specs.Selected.{frame_in, is_frame_result}
 use Rattle.pre_trace.specs.Queries.{Begins, Ends, Arrivals}
 use Rattle.pre_trace.specs.Comings.{Coming, frame_at, next_arc, relayed}
 use Rattle.pre_trace.specs.Ordered.{IsOrdered}
-use Rattle.pre_sim.specs.declared.lanes.Passing.{Passing}
-use Rattle.pre_sim.specs.Stands.{IsFrameOf, Onward, onward, passes, AreInside}
-use Rattle.pre_sim.specs.Sends.{due_at, without_due}
+use Rattle.pre_bridge.specs.Inside.{Entry, is_due}
+use Rattle.pre_sim.specs.Stands.{Onward, onward, passes, AreInside}
+use Rattle.pre_sim.specs.Sends.{coming_of}
 use Rattle.pre_sim.proofs.Lists.{there, within, every-append, every_weaker, every_selected, drop-append, at_front}
 use Rattle.pre_sim.proofs.Arriving.{later_ends}
 
@@ -48,14 +48,13 @@ every_take P zero xs all = tt
 every_take P (suc n) [] all = tt
 every_take P (suc n) (x ∷ xs) (here, more) = (here, every_take P n xs more)
 
-pub begun_inside : (w : Scenario) (a t : ℕ) (bs cs : List Begin) (xs : List Arrive) (items : List Passing) → Every (λ (x : Arrive). x.ord < length bs) xs → AreInside w a bs xs t items → AreInside w a (bs ++ cs) xs t items
+pub begun_inside : (w : Scenario) (a t : ℕ) (bs cs : List Begin) (xs : List Arrive) (items : List Entry) → Every (λ (x : Arrive). x.ord < length bs) xs → AreInside w a bs xs t items → AreInside w a (bs ++ cs) xs t items
 begun_inside w a t bs cs xs items known is = record {
   gone = is.gone;
   few = is.few;
   past = is.past;
   later = is.later;
   are = all_onward w a bs cs (drop is.gone xs) (every_drop (λ (x : Arrive). x.ord < length bs) is.gone xs known) ∙ is.are;
-  frames = is.frames;
 }
 
 -- ---- one more arrives
@@ -70,9 +69,9 @@ long_front zero xs x le = omega arith
 long_front (suc n) [] x le = absurd (omega (arith, le))
 long_front (suc n) (y ∷ xs) x le = let more : n ≤ length (xs ++ x ∷ []) = long_front n xs x (omega (arith, le)) in omega (arith, more)
 
-pub arrived_inside : (w : Scenario) (a t : ℕ) (bs : List Begin) (xs : List Arrive) (items : List Passing) (x : Arrive) (more : List Passing) → AreInside w a bs xs t items → t ≤ x.tick + latency w a
-    → filter_map (onward w a bs) (x ∷ []) ≡ map passes more → Every (λ (p : Passing). IsFrameOf w a p.frame) more → AreInside w a bs (xs ++ x ∷ []) t (items ++ more)
-arrived_inside w a t bs xs items x more is late goes frames =
+pub arrived_inside : (w : Scenario) (a t : ℕ) (bs : List Begin) (xs : List Arrive) (items : List Entry) (x : Arrive) (more : List Entry) → AreInside w a bs xs t items → t ≤ x.tick + latency w a
+    → filter_map (onward w a bs) (x ∷ []) ≡ map passes more → AreInside w a bs (xs ++ x ∷ []) t (items ++ more)
+arrived_inside w a t bs xs items x more is late goes =
     let dropped : drop is.gone (xs ++ x ∷ []) ≡ drop is.gone xs ++ x ∷ [] = drop-append is.gone xs (x ∷ []) is.few in
     record {
       gone = is.gone;
@@ -80,7 +79,6 @@ arrived_inside w a t bs xs items x more is late goes frames =
       past = subst (Every (λ (y : Arrive). y.tick + latency w a < t)) (sym (take_front is.gone xs (x ∷ []) is.few)) is.past;
       later = subst (Every (λ (y : Arrive). t ≤ y.tick + latency w a)) (sym dropped) (every-append (λ (y : Arrive). t ≤ y.tick + latency w a) (drop is.gone xs) (x ∷ []) is.later (late, tt));
       are = ap (filter_map (onward w a bs)) dropped ∙ (filter_map-append (onward w a bs) (drop is.gone xs) (x ∷ []) ∙ (ap (λ ys. ys ++ filter_map (onward w a bs) (x ∷ [])) is.are ∙ (ap (λ ys. map passes items ++ ys) goes ∙ sym (map-append passes items more))));
-      frames = every-append (λ (p : Passing). IsFrameOf w a p.frame) items more is.frames frames;
     }
 
 -- ---- each arrives later than those before it
@@ -133,29 +131,39 @@ onward_due w a bs x o is = go (is_frame_result x.result) (option_and_then (λ b.
     go true (Some f) is = last_step f (next_arc w a f) is
 
 -- those of later arrivals are due later
-later_dues : (w : Scenario) (a t : ℕ) (bs : List Begin) (xs : List Arrive) (items : List Passing) → Every (λ (x : Arrive). t < x.tick + latency w a) xs → filter_map (onward w a bs) xs ≡ map passes items → Every (λ (p : Passing). t < p.due.0) items
+later_dues : (w : Scenario) (a t : ℕ) (bs : List Begin) (xs : List Arrive) (items : List Entry) → Every (λ (x : Arrive). t < x.tick + latency w a) xs → filter_map (onward w a bs) xs ≡ map passes items → Every (λ (p : Entry). t < p.due) items
 later_dues w a t bs xs items late are =
     from_map items (subst (Every (λ (o : Onward). t < o.due)) are (every_selected (onward w a bs) (λ (x : Arrive). t < x.tick + latency w a) (λ (o : Onward). t < o.due) (λ x o lt is. let due = onward_due w a bs x o is in omega (arith, lt, due)) xs late))
   where
-    from_map : (ps : List Passing) → Every (λ (o : Onward). t < o.due) (map passes ps) → Every (λ (p : Passing). t < p.due.0) ps
+    from_map : (ps : List Entry) → Every (λ (o : Onward). t < o.due) (map passes ps) → Every (λ (p : Entry). t < p.due) ps
     from_map [] all = tt
     from_map (p ∷ ps) (here, more) = (here, from_map ps more)
 
-none_without : (t : ℕ) (items : List Passing) → Every (λ (p : Passing). t < p.due.0) items → without_due t items ≡ items
-none_without t [] late = refl
-none_without t (p ∷ ps) (here, more) = let test : (p.due.0 == t) ≡ false = not_eq p.due.0 t (λ e. omega (arith, here, e)) in rw test refl
+no_test : (m n : ℕ) → n < m → nat_le m n ≡ false
+no_test m n lt = grind (arith, nat_tests)
 
-none_due : (t : ℕ) (items : List Passing) → Every (λ (p : Passing). t < p.due.0) items → due_at t items ≡ []
+a_test : (m n : ℕ) → m ≤ n → nat_le m n ≡ true
+a_test m n le = grind (arith, nat_tests)
+
+-- those that aren't due
+abbrev pub left_of : ℕ → List Entry → List Entry
+left_of t items = filter (λ p. not (is_due t p)) items
+
+none_without : (t : ℕ) (items : List Entry) → Every (λ (p : Entry). t < p.due) items → left_of t items ≡ items
+none_without t [] late = refl
+none_without t (p ∷ ps) (here, more) = rw (no_test p.due t here) (ap (λ xs. p ∷ xs) (none_without t ps more))
+
+none_due : (t : ℕ) (items : List Entry) → Every (λ (p : Entry). t < p.due) items → filter (is_due t) items ≡ []
 none_due t [] late = refl
-none_due t (p ∷ ps) (here, more) = let test : (p.due.0 == t) ≡ false = not_eq p.due.0 t (λ e. omega (arith, here, e)) in rw test refl
+none_due t (p ∷ ps) (here, more) = rw (no_test p.due t here) (none_due t ps more)
 
 -- the first of these is an arrival whose latency is over at the tick, or none is
-pub record FirstDue (w : Scenario) (a t : ℕ) (bs : List Begin) (xs : List Arrive) (items : List Passing) (x : Arrive) (rest : List Arrive) : Type 0 where
+pub record FirstDue (w : Scenario) (a t : ℕ) (bs : List Begin) (xs : List Arrive) (items : List Entry) (x : Arrive) (rest : List Arrive) : Type 0 where
   pub split : xs ≡ x ∷ rest
   pub due : x.tick + latency w a ≡ t
   pub behind : Every (λ (y : Arrive). t < y.tick + latency w a) rest
 
-first_due : (w : Scenario) (a t : ℕ) (bs : List Begin) (xs : List Arrive) (items : List Passing) → AreRising xs → Every (λ (x : Arrive). t ≤ x.tick + latency w a) xs
+first_due : (w : Scenario) (a t : ℕ) (bs : List Begin) (xs : List Arrive) (items : List Entry) → AreRising xs → Every (λ (x : Arrive). t ≤ x.tick + latency w a) xs
     → ((x : Arrive) × (rest : List Arrive) × FirstDue w a t bs xs items x rest) ⊎ Every (λ (x : Arrive). t < x.tick + latency w a) xs
 first_due w a t bs [] items rise late = inr tt
 first_due w a t bs (x ∷ xs) items (first, rise) (here, more) = elim (cases_eq (x.tick + latency w a) t) [
@@ -174,32 +182,24 @@ drop_one {X} n xs x rest is = let same : suc n ≡ n + 1 = omega arith in subst 
     go (suc n) [] is = absurd (cc is)
     go (suc n) (y ∷ xs) is = let r = go n xs is in (r.0, ap (λ zs. y ∷ zs) r.1, omega (arith, r.2))
 
-every_without : (P : Passing → Type 0) (t : ℕ) (items : List Passing) → Every P items → Every P (without_due t items)
-every_without P t [] all = tt
-every_without P t (p ∷ ps) (here, more) = go (p.due.0 == t)
-  where
-    go : (b : Bool) → Every P (if b then ps else p ∷ ps)
-    go true = more
-    go false = (here, more)
-
 -- the first one is gone, where its arrival goes on
-one_gone : (w : Scenario) (a t : ℕ) (bs : List Begin) (x : Arrive) (rest : List Arrive) (items : List Passing) → x.tick + latency w a ≡ t → Every (λ (y : Arrive). t < y.tick + latency w a) rest
-    → filter_map (onward w a bs) (x ∷ rest) ≡ map passes items → filter_map (onward w a bs) rest ≡ map passes (without_due t items)
+one_gone : (w : Scenario) (a t : ℕ) (bs : List Begin) (x : Arrive) (rest : List Arrive) (items : List Entry) → x.tick + latency w a ≡ t → Every (λ (y : Arrive). t < y.tick + latency w a) rest
+    → filter_map (onward w a bs) (x ∷ rest) ≡ map passes items → filter_map (onward w a bs) rest ≡ map passes (left_of t items)
 one_gone w a t bs x rest items due late are = go (onward w a bs x) refl are
   where
-    go : (o : Option Onward) → onward w a bs x ≡ o → cons_option o (filter_map (onward w a bs) rest) ≡ map passes items → filter_map (onward w a bs) rest ≡ map passes (without_due t items)
+    go : (o : Option Onward) → onward w a bs x ≡ o → cons_option o (filter_map (onward w a bs) rest) ≡ map passes items → filter_map (onward w a bs) rest ≡ map passes (left_of t items)
     go None is are = are ∙ ap (map passes) (sym (none_without t items (later_dues w a t bs rest items late are)))
     go (Some o) is are = taken items are
       where
-        taken : (ps : List Passing) → o ∷ filter_map (onward w a bs) rest ≡ map passes ps → filter_map (onward w a bs) rest ≡ map passes (without_due t ps)
+        taken : (ps : List Entry) → o ∷ filter_map (onward w a bs) rest ≡ map passes ps → filter_map (onward w a bs) rest ≡ map passes (left_of t ps)
         taken [] are = absurd (cc are)
         taken (p ∷ ps) are =
             let first : o ≡ passes p = cc are in
-            let test : (p.due.0 == t) ≡ true = is_eq p.due.0 t (ap (λ (z : Onward). z.due) (sym first) ∙ (onward_due w a bs x o is ∙ due)) in
+            let now : p.due ≡ t = ap (λ (z : Onward). z.due) (sym first) ∙ (onward_due w a bs x o is ∙ due) in
             let others : filter_map (onward w a bs) rest ≡ map passes ps = cc are in
-            rw test others
+            rw (a_test p.due t (omega (arith, now))) (others ∙ ap (map passes) (sym (none_without t ps (later_dues w a t bs rest ps late others))))
 
-pub settled_inside : (w : Scenario) (a t : ℕ) (bs : List Begin) (xs : List Arrive) (items : List Passing) → AreRising xs → AreInside w a bs xs t items → AreInside w a bs xs (t + 1) (without_due t items)
+pub settled_inside : (w : Scenario) (a t : ℕ) (bs : List Begin) (xs : List Arrive) (items : List Entry) → AreRising xs → AreInside w a bs xs t items → AreInside w a bs xs (t + 1) (left_of t items)
 settled_inside w a t bs xs items rise is = elim (first_due w a t bs (drop is.gone xs) items (rising_drop is.gone xs rise) is.later) [
   | inl (x, rest, f) ↦
       let one = drop_one is.gone xs x rest f.split in
@@ -210,7 +210,6 @@ settled_inside w a t bs xs items rise is = elim (first_due w a t bs (drop is.gon
             (every-append (λ (y : Arrive). y.tick + latency w a < t + 1) (take is.gone xs) (x ∷ []) (every_weaker (λ (y : Arrive). y.tick + latency w a < t) (λ (y : Arrive). y.tick + latency w a < t + 1) (λ y lt. omega (arith, lt)) (take is.gone xs) is.past) (omega (arith, f.due), tt));
         later = subst (Every (λ (y : Arrive). t + 1 ≤ y.tick + latency w a)) (sym one.0) (every_weaker (λ (y : Arrive). t < y.tick + latency w a) (λ (y : Arrive). t + 1 ≤ y.tick + latency w a) (λ y lt. omega (arith, lt)) rest f.behind);
         are = ap (filter_map (onward w a bs)) one.0 ∙ one_gone w a t bs x rest items f.due f.behind (ap (filter_map (onward w a bs)) (sym f.split) ∙ is.are);
-        frames = every_without (λ (p : Passing). IsFrameOf w a p.frame) t items is.frames;
       }
   | inr late ↦ record {
     gone = is.gone;
@@ -218,24 +217,23 @@ settled_inside w a t bs xs items rise is = elim (first_due w a t bs (drop is.gon
     past = every_weaker (λ (y : Arrive). y.tick + latency w a < t) (λ (y : Arrive). y.tick + latency w a < t + 1) (λ y lt. omega (arith, lt)) (take is.gone xs) is.past;
     later = every_weaker (λ (y : Arrive). t < y.tick + latency w a) (λ (y : Arrive). t + 1 ≤ y.tick + latency w a) (λ y lt. omega (arith, lt)) (drop is.gone xs) late;
     are = is.are ∙ ap (map passes) (sym (none_without t items (later_dues w a t bs (drop is.gone xs) items late is.are)));
-    frames = every_without (λ (p : Passing). IsFrameOf w a p.frame) t items is.frames;
   }
 ]
 
 -- ---- which of them come to rings
 
-abbrev coming_of : Onward → Coming
-coming_of o = record { arc = o.arc; frame = o.frame }
+abbrev coming : Onward → Coming
+coming o = record { arc = o.arc; frame = o.frame }
 
-relayed_now : (w : Scenario) (h : History) (t a : ℕ) (x : Arrive) → x.tick + latency w a ≡ t → relayed w h t a x ≡ option_map coming_of (onward w a (Begins h a) x)
+relayed_now : (w : Scenario) (h : History) (t a : ℕ) (x : Arrive) → x.tick + latency w a ≡ t → relayed w h t a x ≡ option_map coming (onward w a (Begins h a) x)
 relayed_now w h t a x due = go (is_frame_result x.result) (x.tick + latency w a == t) (is_eq (x.tick + latency w a) t due) (frame_at h a x.ord)
   where
-    last_step : (f : ℕ) (n : Option ℕ) → option_map (λ b. record { arc = b; frame = f }) n ≡ option_map coming_of (option_map (λ b. record { due = x.tick + latency w a; arc = b; frame = f }) n)
+    last_step : (f : ℕ) (n : Option ℕ) → option_map (λ b. record { arc = b; frame = f }) n ≡ option_map coming (option_map (λ b. record { due = x.tick + latency w a; arc = b; frame = f }) n)
     last_step f None = refl
     last_step f (Some b) = refl
 
     go : (b c : Bool) → c ≡ true → (o : Option ℕ) → (if b && c then option_and_then {U = Coming} (λ f. option_map (λ b. record { arc = b; frame = f }) (next_arc w a f)) o else None)
-        ≡ option_map coming_of (if b then option_and_then {U = Onward} (λ f. option_map (λ b. record { due = x.tick + latency w a; arc = b; frame = f }) (next_arc w a f)) o else None)
+        ≡ option_map coming (if b then option_and_then {U = Onward} (λ f. option_map (λ b. record { due = x.tick + latency w a; arc = b; frame = f }) (next_arc w a f)) o else None)
     go false c on o = refl
     go true c on None = rw on refl
     go true c on (Some f) = rw on (last_step f (next_arc w a f))
@@ -256,25 +254,27 @@ take_drop zero xs = refl
 take_drop (suc n) [] = refl
 take_drop (suc n) (x ∷ xs) = ap (λ zs. x ∷ zs) (take_drop n xs)
 
-one_relayed : (w : Scenario) (h : History) (t a : ℕ) (x : Arrive) (rest : List Arrive) (items : List Passing) → x.tick + latency w a ≡ t → Every (λ (y : Arrive). t < y.tick + latency w a) rest
-    → filter_map (onward w a (Begins h a)) (x ∷ rest) ≡ map passes items → filter_map (relayed w h t a) (x ∷ rest) ≡ due_at t items
+one_relayed : (w : Scenario) (h : History) (t a : ℕ) (x : Arrive) (rest : List Arrive) (items : List Entry) → x.tick + latency w a ≡ t → Every (λ (y : Arrive). t < y.tick + latency w a) rest
+    → filter_map (onward w a (Begins h a)) (x ∷ rest) ≡ map passes items → filter_map (relayed w h t a) (x ∷ rest) ≡ map coming_of (filter (is_due t) items)
 one_relayed w h t a x rest items due late are =
     let none = none_relayed w h t a rest (every_weaker (λ (y : Arrive). t < y.tick + latency w a) (λ (y : Arrive). y.tick + latency w a ≢ t) (λ y lt e. omega (arith, lt, e)) rest late) in
     (λ i. cons_option (relayed_now w h t a x due i) (none i)) ∙ go (onward w a (Begins h a) x) refl are
   where
-    go : (o : Option Onward) → onward w a (Begins h a) x ≡ o → cons_option o (filter_map (onward w a (Begins h a)) rest) ≡ map passes items → cons_option (option_map coming_of o) [] ≡ due_at t items
-    go None is are = sym (none_due t items (later_dues w a t (Begins h a) rest items late are))
+    go : (o : Option Onward) → onward w a (Begins h a) x ≡ o → cons_option o (filter_map (onward w a (Begins h a)) rest) ≡ map passes items → cons_option (option_map coming o) [] ≡ map coming_of (filter (is_due t) items)
+    go None is are = sym (ap (map coming_of) (none_due t items (later_dues w a t (Begins h a) rest items late are)))
     go (Some o) is are = taken items are
       where
-        taken : (ps : List Passing) → o ∷ filter_map (onward w a (Begins h a)) rest ≡ map passes ps → coming_of o ∷ [] ≡ due_at t ps
+        taken : (ps : List Entry) → o ∷ filter_map (onward w a (Begins h a)) rest ≡ map passes ps → coming o ∷ [] ≡ map coming_of (filter (is_due t) ps)
         taken [] are = absurd (cc are)
         taken (p ∷ ps) are =
             let first : o ≡ passes p = cc are in
-            let test : (p.due.0 == t) ≡ true = is_eq p.due.0 t (ap (λ (z : Onward). z.due) (sym first) ∙ (onward_due w a (Begins h a) x o is ∙ due)) in
-            rw test (ap (λ z. coming_of z ∷ []) first)
+            let now : p.due ≡ t = ap (λ (z : Onward). z.due) (sym first) ∙ (onward_due w a (Begins h a) x o is ∙ due) in
+            let others : filter_map (onward w a (Begins h a)) rest ≡ map passes ps = cc are in
+            let none : filter (is_due t) ps ≡ [] = none_due t ps (later_dues w a t (Begins h a) rest ps late others) in
+            rw (a_test p.due t (omega (arith, now))) (ap (λ z. coming z ∷ []) first ∙ ap (λ xs. coming_of p ∷ map coming_of xs) (sym none))
 
 -- the frames that an arc's bridge hands on at the tick
-pub relayed_are : (w : Scenario) (h : History) (t a : ℕ) (items : List Passing) → AreRising (Arrivals h a) → AreInside w a (Begins h a) (Arrivals h a) t items → filter_map (relayed w h t a) (Arrivals h a) ≡ due_at t items
+pub relayed_are : (w : Scenario) (h : History) (t a : ℕ) (items : List Entry) → AreRising (Arrivals h a) → AreInside w a (Begins h a) (Arrivals h a) t items → filter_map (relayed w h t a) (Arrivals h a) ≡ map coming_of (filter (is_due t) items)
 relayed_are w h t a items rise is =
     let before = none_relayed w h t a (take is.gone (Arrivals h a)) (every_weaker (λ (y : Arrive). y.tick + latency w a < t) (λ (y : Arrive). y.tick + latency w a ≢ t) (λ y lt e. omega (arith, lt, e)) (take is.gone (Arrivals h a)) is.past) in
     ap (filter_map (relayed w h t a)) (take_drop is.gone (Arrivals h a))
@@ -284,5 +284,30 @@ relayed_are w h t a items rise is =
       | inl (x, rest, f) ↦ ap (filter_map (relayed w h t a)) f.split ∙ one_relayed w h t a x rest items f.due f.behind (ap (filter_map (onward w a (Begins h a))) (sym f.split) ∙ is.are)
       | inr late ↦
           none_relayed w h t a (drop is.gone (Arrivals h a)) (every_weaker (λ (y : Arrive). t < y.tick + latency w a) (λ (y : Arrive). y.tick + latency w a ≢ t) (λ y lt e. omega (arith, lt, e)) (drop is.gone (Arrivals h a)) late)
-          ∙ sym (none_due t items (later_dues w a t (Begins h a) (drop is.gone (Arrivals h a)) items late is.are))
+          ∙ sym (ap (map coming_of) (none_due t items (later_dues w a t (Begins h a) (drop is.gone (Arrivals h a)) items late is.are)))
     ]))
+
+-- at most one of them is due
+pub few_due : (w : Scenario) (h : History) (t a : ℕ) (items : List Entry) → AreRising (Arrivals h a) → AreInside w a (Begins h a) (Arrivals h a) t items → length (filter (is_due t) items) ≤ 1
+few_due w h t a items rise is = elim (first_due w a t (Begins h a) (drop is.gone (Arrivals h a)) items (rising_drop is.gone (Arrivals h a) rise) is.later) [
+  | inl (x, rest, f) ↦ one x rest f items (ap (filter_map (onward w a (Begins h a))) (sym f.split) ∙ is.are)
+  | inr late ↦ let none = ap length (none_due t items (later_dues w a t (Begins h a) (drop is.gone (Arrivals h a)) items late is.are)) in omega (arith, none)
+]
+  where
+    one : (x : Arrive) (rest : List Arrive) → FirstDue w a t (Begins h a) (drop is.gone (Arrivals h a)) items x rest → (ps : List Entry) → filter_map (onward w a (Begins h a)) (x ∷ rest) ≡ map passes ps → length (filter (is_due t) ps) ≤ 1
+    one x rest f ps are = go (onward w a (Begins h a) x) are
+      where
+        at_most : (p : Entry) (qs : List Entry) → filter (is_due t) qs ≡ [] → length (filter (is_due t) (p ∷ qs)) ≤ 1
+        at_most p qs none = pick (is_due t p)
+          where
+            pick : (b : Bool) → length (if b then p ∷ filter (is_due t) qs else filter (is_due t) qs) ≤ 1
+            pick true = let e = ap length none in omega (arith, e)
+            pick false = let e = ap length none in omega (arith, e)
+
+        first : (o : Onward) (qs : List Entry) → o ∷ filter_map (onward w a (Begins h a)) rest ≡ map passes qs → length (filter (is_due t) qs) ≤ 1
+        first o [] are = absurd (cc are)
+        first o (q ∷ qs) are = at_most q qs (none_due t qs (later_dues w a t (Begins h a) rest qs f.behind (cc are)))
+
+        go : (o : Option Onward) → cons_option o (filter_map (onward w a (Begins h a)) rest) ≡ map passes ps → length (filter (is_due t) ps) ≤ 1
+        go None are = let none = ap length (none_due t ps (later_dues w a t (Begins h a) rest ps f.behind are)) in omega (arith, none)
+        go (Some o) are = first o ps are

@@ -10,7 +10,6 @@ pub mod Free
 pub mod Starting
 pub mod Started
 pub mod StartParts
-pub mod Highest
 pub mod Others
 pub mod Entering
 pub mod Arriving
@@ -20,7 +19,11 @@ pub mod Direct
 pub mod ArriveParts
 pub mod TickParts
 pub mod StepParts
-pub mod Frames
+pub mod SentFrames
+pub mod Counts
+pub mod Keeping
+pub mod Onwards
+pub mod AllArrivals
 pub mod EntriesTold
 pub mod EntriesOne
 pub mod EntriesSends
@@ -30,6 +33,5 @@ pub mod Inside
 pub mod EntriesNew
 pub mod EntriesParts
 pub mod Settling
-pub mod EntriesRelay
-pub mod EntriesRelays
+pub mod EntriesTakes
 pub mod EntriesCount

@@ -1,23 +1,28 @@
 -- The lane after a frame began.
-use Rattle.std.proofs.Common.{ℕ, zero, suc, ◌≡◌, ◌≢◌, ◌==◌, ◌&&◌, ◌||◌, ◌+◌, ◌*◌, ◌≤◌, not, Bool, true, false, List, [], ◌∷◌, ◌++◌, length, drop, refl, sym, ◌∙◌, ap, arith, subst, Some, None, map, filter, length-append}
+use Rattle.std.proofs.Common.{ℕ, suc, ◌≡◌, ◌≢◌, ◌==◌, ◌&&◌, ◌||◌, ◌+◌, ◌*◌, ◌≤◌, not, Bool, true, false, List, [], ◌∷◌, ◌++◌, length, drop, refl, sym, ◌∙◌, ap, inl, inr, arith, subst, Some, None, map, filter, length-append}
 use Rattle.std.specs.Prelude.{slice_get, if◌then◌else◌}
-use Rattle.std.specs.List.{list_any, remove, AllByRecursion as Every}
+use Rattle.std.specs.List.{list_any, AllByRecursion as Every}
 use Rattle.std.proofs.Math.Path.{fun_ext}
 use Rattle.std.proofs.lemmas.List.Folds.{list_any-append}
 use Rattle.std.proofs.lemmas.List.Elements.{filter_map-append}
-use Rattle.std.proofs.lemmas.List.{append-nil}
+use Rattle.std.proofs.lemmas.List.{append-nil, get_or-set_other}
+use Rattle.std.proofs.lemmas.Grind.{get_or-set_at}
+use Rattle.std.proofs.lemmas.Bool.{cases_eq}
 use Rattle.std.proofs.lemmas.Bool.Decides.{nat_tests}
 use Rattle.pre_base.specs.declared.numbers.FrameNo.{FrameNo}
 use Rattle.pre_mpacket.specs.declared.packets.Kind.TheVariants as kind
+use Rattle.pre_rings.specs.declared.slots.FrameRef.{FrameRef}
+use Rattle.pre_rings.specs.Ports.{Port, IsPort, frames_at, with_frames}
 use Rattle.pre_trace.specs.declared.events.What.TheVariants as what
-use Rattle.pre_trace.specs.Scenario.{Scenario, arc, capacity}
+use Rattle.pre_trace.specs.Scenario.{Scenario, arc, row, send}
 use Rattle.pre_trace.specs.History.{PlainEvent, History, Begin, Ended}
 use Rattle.pre_trace.specs.Selected.{RingEntry, what_is, begin_on, entry_on}
 use Rattle.pre_trace.specs.Queries.{Begins, Entries}
-use Rattle.pre_sim.specs.declared.plans.Frame.{Frame}
+use Rattle.pre_sim.specs.declared.lanes.Sending.{Sending}
 use Rattle.pre_sim.specs.declared.lanes.Flight.{Flight}
-use Rattle.pre_sim.specs.Stands.{IsFrameOf, AreFlying, IsWholeBegin, GoesWhole, IsLane, AreApart, numbers_of, has_begun, StillWaiting}
-use Rattle.pre_sim.proofs.Lists.{at_last, at_front, every-append, every_at}
+use Rattle.pre_sim.specs.Keeps.{Store, Waits}
+use Rattle.pre_sim.specs.Stands.{AreFlying, IsWholeBegin, IsLane, AreApart, ring_numbers, has_begun, StillWaiting}
+use Rattle.pre_sim.proofs.Lists.{at_last, at_front, every-append}
 
 not_eq : (m n : ℕ) → m ≢ n → (m == n) ≡ false
 not_eq m n other = grind (arith, nat_tests)
@@ -25,51 +30,34 @@ not_eq m n other = grind (arith, nat_tests)
 is_eq : (m n : ℕ) → m ≡ n → (m == n) ≡ true
 is_eq m n e = grind (arith, nat_tests)
 
--- ---- the frames but one
+-- ---- the numbers but one
 
-abbrev pub but : ℕ → List Frame → List Frame
-but k frames = filter (λ g. not (k == g.number.0)) frames
+abbrev pub but : ℕ → List ℕ → List ℕ
+but k ns = filter (λ n. not (k == n)) ns
 
-but_none : (k : ℕ) (fs : List Frame) → Every (λ (g : Frame). k ≢ g.number.0) fs → but k fs ≡ fs
+but_none : (k : ℕ) (ns : List ℕ) → Every (λ n. k ≢ n) ns → but k ns ≡ ns
 but_none k [] all = refl
-but_none k (g ∷ fs) (here, more) = rw (not_eq k g.number.0 here) (ap (λ xs. g ∷ xs) (but_none k fs more))
+but_none k (n ∷ ns) (here, more) = rw (not_eq k n here) (ap (λ xs. n ∷ xs) (but_none k ns more))
 
--- taking out a frame is leaving out its number
-pub removed : (fs : List Frame) (i : ℕ) (f : Frame) → AreApart fs → slice_get fs i ≡ Some f → remove fs i ≡ but f.number.0 fs
-removed [] i f apart at = absurd (cc at)
-removed (g ∷ fs) zero f (first, apart) at =
-    let same : g ≡ f = cc at in
-    let test : (f.number.0 == g.number.0) ≡ true = is_eq f.number.0 g.number.0 (ap (λ (x : Frame). x.number.0) (sym same)) in
-    rw test (sym (but_none f.number.0 fs (subst (λ (x : Frame). Every (λ (y : Frame). x.number.0 ≢ y.number.0) fs) same first)))
-removed (g ∷ fs) (suc i) f (first, apart) at =
-    let other : g.number.0 ≢ f.number.0 = every_at (λ (y : Frame). g.number.0 ≢ y.number.0) fs i f first at in
-    rw (not_eq f.number.0 g.number.0 (λ e. other (sym e))) (ap (λ xs. g ∷ xs) (removed fs i f apart at))
+-- leaving out the first number leaves those behind it
+but_first : (n : ℕ) (ns : List ℕ) → AreApart (n ∷ ns) → but n (n ∷ ns) ≡ ns
+but_first n ns (first, apart) = rw (is_eq n n refl) (but_none n ns first)
 
-pub every_but : (P : Frame → Type 0) (k : ℕ) (fs : List Frame) → Every P fs → Every P (but k fs)
+every_but : (P : ℕ → Type 0) (k : ℕ) (ns : List ℕ) → Every P ns → Every P (but k ns)
 every_but P k [] all = tt
-every_but P k (g ∷ fs) (here, more) = go (k == g.number.0) (every_but P k fs more)
+every_but P k (n ∷ ns) (here, more) = go (k == n) (every_but P k ns more)
   where
-    go : (b : Bool) → Every P (but k fs) → Every P (if not b then g ∷ but k fs else but k fs)
+    go : (b : Bool) → Every P (but k ns) → Every P (if not b then n ∷ but k ns else but k ns)
     go true rest = rest
     go false rest = (here, rest)
 
-pub apart_but : (k : ℕ) (fs : List Frame) → AreApart fs → AreApart (but k fs)
+apart_but : (k : ℕ) (ns : List ℕ) → AreApart ns → AreApart (but k ns)
 apart_but k [] apart = tt
-apart_but k (g ∷ fs) (first, apart) = go (k == g.number.0) (apart_but k fs apart)
+apart_but k (n ∷ ns) (first, apart) = go (k == n) (apart_but k ns apart)
   where
-    go : (b : Bool) → AreApart (but k fs) → AreApart (if not b then g ∷ but k fs else but k fs)
+    go : (b : Bool) → AreApart (but k ns) → AreApart (if not b then n ∷ but k ns else but k ns)
     go true rest = rest
-    go false rest = (every_but (λ y. g.number.0 ≢ y.number.0) k fs first, rest)
-
-pub numbers_but : (p k : ℕ) (fs : List Frame) → numbers_of p (but k fs) ≡ filter (λ n. not (k == n)) (numbers_of p fs)
-numbers_but p k [] = refl
-numbers_but p k (g ∷ fs) = go (k == g.number.0) (g.prio == p) refl refl (numbers_but p k fs)
-  where
-    go : (b c : Bool) → (k == g.number.0) ≡ b → (g.prio == p) ≡ c → numbers_of p (but k fs) ≡ filter (λ n. not (k == n)) (numbers_of p fs) → numbers_of p (but k (g ∷ fs)) ≡ filter (λ n. not (k == n)) (numbers_of p (g ∷ fs))
-    go true true is on rest = rw (is, on) (rw is rest)
-    go true false is on rest = rw (is, on) rest
-    go false true is on rest = rw (is, on) (rw is (ap (λ xs. g.number.0 ∷ xs) rest))
-    go false false is on rest = rw (is, on) rest
+    go false rest = (every_but (λ m. n ≢ m) k ns first, rest)
 
 length_filter : (test : ℕ → Bool) (ns : List ℕ) → length (filter test ns) ≤ length ns
 length_filter test [] = omega arith
@@ -79,9 +67,30 @@ length_filter test (n ∷ ns) = go (test n) (length_filter test ns)
     go true le = omega (arith, le)
     go false le = omega (arith, le)
 
--- there are no more of them
-pub fewer : (p k : ℕ) (fs : List Frame) (m : ℕ) → length (numbers_of p fs) ≤ m → length (numbers_of p (but k fs)) ≤ m
-fewer p k fs m le = omega (arith, ap length (numbers_but p k fs), length_filter (λ n. not (k == n)) (numbers_of p fs), le)
+-- ---- the rings that a frame left
+
+abbrev numbers_of : List FrameRef → List ℕ
+numbers_of frames = map (λ (g : FrameRef). g.frame.0) frames
+
+-- a frame of one priority is none of another
+not_among : (w : Scenario) (store : Store) (a p q : ℕ) (f : FrameRef) → Waits w store a p f → q ≢ p → (frames : List FrameRef) → Every (Waits w store a q) frames → Every (λ n. f.frame.0 ≢ n) (numbers_of frames)
+not_among w store a p q f is other [] all = tt
+not_among w store a p q f is other (g ∷ gs) (here, more) =
+    (λ same. other (sym here.ring ∙ (here.frame.prio ∙ (ap (λ n. (row w n).prio) (sym same) ∙ (sym is.frame.prio ∙ is.ring)))), not_among w store a p q f is other gs more)
+
+-- all that waited but the frame still waits
+pub left_numbers : (w : Scenario) (store : Store) (a : ℕ) (rings : Port) → IsPort rings → ((p : ℕ) → Every (Waits w store a p) (frames_at rings p)) → ((p : ℕ) → AreApart (ring_numbers rings p))
+    → (prio : ℕ) (f : FrameRef) (behind : List FrameRef) → prio ≤ 7 → frames_at rings prio ≡ f ∷ behind → (q : ℕ) → ring_numbers (with_frames rings prio behind) q ≡ but f.frame.0 (ring_numbers rings q)
+left_numbers w store a rings eight waiting apart prio f behind most front q = elim (cases_eq q prio) [
+  | inl same ↦
+      let before : ring_numbers rings q ≡ f.frame.0 ∷ numbers_of behind = ap (ring_numbers rings) same ∙ ap numbers_of front in
+      let now : frames_at (with_frames rings prio behind) q ≡ behind = get_or-set_at rings.frames prio q behind [] same (omega (arith, eight.0, most)) in
+      ap numbers_of now ∙ sym (ap (but f.frame.0) before ∙ but_first f.frame.0 (numbers_of behind) (subst AreApart before (apart q)))
+  | inr other ↦
+      let now : frames_at (with_frames rings prio behind) q ≡ frames_at rings q = get_or-set_other rings.frames prio q behind [] other in
+      let its : Waits w store a prio f = (subst (Every (Waits w store a prio)) front (waiting prio)).0 in
+      ap numbers_of now ∙ sym (but_none f.frame.0 (ring_numbers rings q) (not_among w store a prio q f its other (frames_at rings q) (waiting q)))
+]
 
 -- ---- what still waits
 
@@ -131,12 +140,12 @@ flying_on w a begins more (f ∷ fs) [] all = absurd all
 flying_on w a begins more (f ∷ fs) (e ∷ es) (is, all) =
     (record { begin = is.begin; begun = at_front begins more f.ord is.begin is.begun; ord = is.ord; carries = is.carries; due = is.due }, flying_on w a begins more fs es all)
 
-pub started_lane : (w : Scenario) (a t : ℕ) (begins : List Begin) (ends : List Ended) (arrived : ℕ) (waits : ℕ → List ℕ) (waiting : List Frame) (free_from begun : ℕ) (flying : List Flight) (i : ℕ) (f : Frame) (b : Begin) (flight : Flight)
-    → IsLane w a begins ends arrived waits waiting None free_from begun flying → slice_get waiting i ≡ Some f
-    → b.tick ≡ t → b.ord ≡ begun → b.kind ≡ kind.Express → b.what ≡ what.Frame f.number → b.from ≡ 0
-    → flight.frame ≡ f → flight.ord ≡ begun → flight.due.0 ≡ t + (arc w a).cost * (f.size + 8)
-    → IsLane w a (begins ++ b ∷ []) ends arrived (λ p. filter (λ n. not (f.number.0 == n)) (waits p)) (but f.number.0 waiting) (Some flight) free_from (begun + 1) flying
-started_lane w a t begins ends arrived waits waiting free_from begun flying i f b flight is at tick ord express carried from its_frame its_ord its_due =
+pub started_lane : (w : Scenario) (a t : ℕ) (begins : List Begin) (ends : List Ended) (arrived : ℕ) (waits : ℕ → List ℕ) (rings left : Port) (free_from begun : ℕ) (flying : List Flight) (b : Begin) (s : Sending)
+    → IsLane w a begins ends arrived waits rings None free_from begun flying → ((p : ℕ) → ring_numbers left p ≡ but s.frame.frame.0 (ring_numbers rings p))
+    → b.tick ≡ t → b.ord ≡ begun → b.kind ≡ kind.Express → b.what ≡ what.Frame s.frame.frame → b.from ≡ 0
+    → s.ord ≡ begun → s.due.0 ≡ t + (arc w a).cost * (s.frame.size + 8) → s.frame.size ≡ (send w s.frame.frame.0).send.size
+    → IsLane w a (begins ++ b ∷ []) ends arrived (λ p. but s.frame.frame.0 (waits p)) left (Some s) free_from (begun + 1) flying
+started_lane w a t begins ends arrived waits rings left free_from begun flying b s is numbers tick ord express carried from its_ord its_due size =
     let long : length (begins ++ b ∷ []) ≡ length begins + 1 = length-append begins (b ∷ []) in
     let all : length begins ≡ length ends = is.sent_is in
     record {
@@ -145,21 +154,13 @@ started_lane w a t begins ends arrived waits waiting free_from begun flying i f 
         begin = b;
         unended = omega (arith, long, all);
         last = subst (λ n. slice_get (begins ++ b ∷ []) n ≡ Some b) all (at_last begins b);
-        carries = record {
-          ord = ord ∙ sym its_ord;
-          kind = express;
-          what = carried ∙ ap (λ (x : Frame). what.Frame x.number) (sym its_frame);
-          from = from;
-          frame = subst (IsFrameOf w a) (sym its_frame) (every_at (IsFrameOf w a) waiting i f is.frames at);
-        };
-        due = its_due ∙ (ap (λ n. n + (arc w a).cost * (f.size + 8)) (sym tick) ∙ ap (λ (x : Frame). b.tick + (arc w a).cost * (x.size + 8)) (sym its_frame));
+        carries = record { its_ord = ord ∙ sym its_ord; kind = express; what = carried; from = from };
+        due = its_due ∙ (ap (λ n. n + (arc w a).cost * (s.frame.size + 8)) (sym tick) ∙ ap (λ n. b.tick + (arc w a).cost * (n + 8)) size);
       };
       free = is.free;
       flies = flying_on w a begins (b ∷ []) flying (drop arrived ends) is.flies;
-      waits_are = λ p. numbers_but p f.number.0 waiting ∙ ap (filter (λ n. not (f.number.0 == n))) (is.waits_are p);
-      fits = λ p. fewer p f.number.0 waiting (capacity w a p) (is.fits p);
-      frames = every_but (IsFrameOf w a) f.number.0 waiting is.frames;
-      apart = apart_but f.number.0 waiting is.apart;
-      goes = every_but (GoesWhole w a) f.number.0 waiting is.goes;
-      whole = every-append IsWholeBegin begins (b ∷ []) is.whole (record { kind = express; frame = f.number; what = carried }, tt);
+      waits_are = λ p. numbers p ∙ ap (but s.frame.frame.0) (is.waits_are p);
+      fits = λ p. omega (arith, length_filter (λ n. not (s.frame.frame.0 == n)) (waits p), is.fits p);
+      apart = λ p. apart_but s.frame.frame.0 (waits p) (is.apart p);
+      whole = every-append IsWholeBegin begins (b ∷ []) is.whole (record { kind = express; frame = s.frame.frame; what = carried }, tt);
     }

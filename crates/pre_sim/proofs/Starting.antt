@@ -1,13 +1,16 @@
 -- What begins on an arc, by what the lane says.
-use Rattle.std.proofs.Common.{ℕ, zero, suc, ◌≡◌, ◌≢◌, ◌==◌, ◌<◌, ◌≤◌, nat_lt, Bool, true, false, List, [], ◌∷◌, length, take, refl, sym, ◌∙◌, ap, inl, inr, arith, subst, Some, map, filter}
-use Rattle.std.specs.Prelude.{slice_get, if◌then◌else◌}
+use Rattle.std.proofs.Common.{ℕ, ◌≡◌, ◌≢◌, ◌<◌, ◌≤◌, nat_lt, Bool, true, false, List, [], ◌∷◌, length, refl, sym, ◌∙◌, ap, inl, inr, arith, subst, map, filter}
+use Rattle.std.specs.Prelude.{if◌then◌else◌}
 use Rattle.std.specs.List.{AllByRecursion as Every}
 use Rattle.std.proofs.lemmas.Bool.{cases_lt}
-use Rattle.std.proofs.lemmas.Bool.Decides.{nat_tests}
+use Rattle.std.proofs.lemmas.List.{get_or_past}
+use Rattle.pre_base.specs.declared.numbers.FrameNo.{FrameNo}
 use Rattle.pre_topo.specs.declared.arcs.Mode.{Mode}
 use Rattle.pre_topo.specs.declared.arcs.Mode.TheVariants as mode
 use Rattle.pre_mpacket.specs.declared.packets.Kind.TheVariants as kind
 use Rattle.pre_mpacket.specs.Arrivals.{is_start, is_fragment}
+use Rattle.pre_rings.specs.declared.slots.FrameRef.{FrameRef}
+use Rattle.pre_rings.specs.Ports.{Port, IsPort, frames_at}
 use Rattle.pre_trace.specs.declared.events.What.TheVariants as what
 use Rattle.pre_trace.specs.Scenario.{Scenario, arc}
 use Rattle.pre_trace.specs.Moments.{Phase}
@@ -17,35 +20,39 @@ use Rattle.pre_trace.specs.Queries.{Begins, Packet, Packets, packet, PacketsBefo
 use Rattle.pre_trace.specs.LinkState.{Active, ActiveIn}
 use Rattle.pre_trace.specs.Starts.{Item, Choice, There, StartRule, IsFront, PreemptableAs, place, whole_frame}
 use Rattle.pre_trace.specs.Rules.{HappensIn}
-use Rattle.pre_sim.specs.declared.plans.Frame.{Frame}
-use Rattle.pre_sim.specs.Spelled.{IsFirstHighest, least_whole}
-use Rattle.pre_sim.specs.Stands.{IsWholeBegin, GoesWhole, numbers_of}
+use Rattle.pre_sim.specs.Keeps.{Store, Waits}
+use Rattle.pre_sim.specs.Reach.{CanRun}
+use Rattle.pre_sim.specs.Spelled.{NoneWaits, least_whole}
+use Rattle.pre_sim.specs.Stands.{IsWholeBegin}
+use Rattle.pre_sim.proofs.Direct.{off_on_route}
 
-no_eq : (m n : ℕ) → m < n → (m == n) ≡ false
-no_eq m n lt = grind (arith, nat_tests)
+-- ---- which frames wait
 
-other_eq : (m n : ℕ) → n < m → (m == n) ≡ false
-other_eq m n lt = grind (arith, nat_tests)
+-- beyond the eight rings none waits
+pub none_beyond : (rings : Port) → IsPort rings → (p : ℕ) → 7 < p → frames_at rings p ≡ []
+none_beyond rings eight p lt = get_or_past rings.frames p [] (omega (arith, eight.0, lt))
 
-is_eq : (m n : ℕ) → m ≡ n → (m == n) ≡ true
-is_eq m n e = grind (arith, nat_tests)
+module _ (w : Scenario) (can : CanRun w.net w.streams w.script) (store : Store) (a : ℕ) where
+  -- a frame that waits goes whole, where it isn't express
+  pub goes_whole : (p : ℕ) (f : FrameRef) → Waits w store a p f → p < w.net.express_from → (arc w a).mode ≡ mode.Off
+  goes_whole p f is lt = off_on_route w can f.frame.0 a is.frame.known is.over (omega (arith, lt, is.ring, is.frame.prio))
 
--- ---- frames by their priorities
+  -- below the least priority of which frames go whole none waits
+  none_below : (p : ℕ) (frames : List FrameRef) (m : Mode) → (arc w a).mode ≡ m → Every (Waits w store a p) frames → p < least_whole w.net.express_from m → frames ≡ []
+  none_below p [] m at all lt = refl
+  none_below p (f ∷ fs) mode.Off at all lt = absurd (omega (arith, lt))
+  none_below p (f ∷ fs) mode.On at (here, more) lt = let off = goes_whole p f here lt in absurd (cc (sym at ∙ off))
+  none_below p (f ∷ fs) mode.Negotiate at (here, more) lt = let off = goes_whole p f here lt in absurd (cc (sym at ∙ off))
 
--- no frame is of a priority above all
-pub none_above : (q p : ℕ) (frames : List Frame) → Every (λ (g : Frame). g.prio ≤ p) frames → p < q → numbers_of q frames ≡ []
-none_above q p [] most lt = refl
-none_above q p (f ∷ fs) (here, more) lt = rw (no_eq f.prio q (omega (arith, here, lt))) (none_above q p fs more lt)
-
--- the first one of a priority is the front of its numbers
-pub first_number : (frames : List Frame) (i : ℕ) (f : Frame) → slice_get frames i ≡ Some f → Every (λ (g : Frame). g.prio < f.prio) (take i frames) → (behind : List ℕ) × (numbers_of f.prio frames ≡ f.number.0 ∷ behind)
-first_number [] i f at before = absurd (cc at)
-first_number (g ∷ fs) zero f at before =
-    let same : g ≡ f = cc at in
-    (numbers_of f.prio fs, subst (λ (x : Frame). numbers_of f.prio (x ∷ fs) ≡ f.number.0 ∷ numbers_of f.prio fs) (sym same) (rw (is_eq f.prio f.prio refl) refl))
-first_number (g ∷ fs) (suc i) f at (here, more) =
-    let rest = first_number fs i f at more in
-    (rest.0, rw (no_eq g.prio f.prio here) rest.1)
+  -- where none waits from there on, none waits at all
+  pub none_at_all : (rings : Port) → IsPort rings → ((p : ℕ) → Every (Waits w store a p) (frames_at rings p)) → NoneWaits (least_whole w.net.express_from (arc w a).mode) rings → (p : ℕ) → frames_at rings p ≡ []
+  none_at_all rings eight waiting none p = elim (cases_lt p (least_whole w.net.express_from (arc w a).mode)) [
+    | inl below ↦ none_below p (frames_at rings p) (arc w a).mode refl (waiting p) below
+    | inr from ↦ elim (cases_lt 7 p) [
+      | inl beyond ↦ none_beyond rings eight p beyond
+      | inr most ↦ none p from most
+    ]
+  ]
 
 -- ---- no fragment began
 
@@ -61,8 +68,7 @@ kept test (p ∷ ps) (here, more) = go (test p) (kept test ps more)
     go true rest = (here, rest)
     go false rest = rest
 
-module _ (w : Scenario) (h : History) (t a : ℕ) (talks : (arc w a).mode ≢ mode.Negotiate) (whole : Every IsWholeBegin (Begins h a))
-    (waiting : List Frame) (waits : (p : ℕ) → Waiting h a p t ≡ numbers_of p waiting) where
+module _ (w : Scenario) (h : History) (t a : ℕ) (talks : (arc w a).mode ≢ mode.Negotiate) (whole : Every IsWholeBegin (Begins h a)) where
   packets_whole : (bs : List Begin) → Every IsWholeBegin bs → Every (λ (p : Packet). p.begin.kind ≡ kind.Express) (map (packet h a) bs)
   packets_whole [] all = tt
   packets_whole (b ∷ bs) (here, more) = (here.kind, packets_whole bs more)
@@ -93,46 +99,29 @@ module _ (w : Scenario) (h : History) (t a : ℕ) (talks : (arc w a).mode ≢ mo
   busy_starts busy = inr ((λ e due. due.1.0 busy), refl)
 
   -- nor where no frame waits
-  none_waits : (m : Mode) → (arc w a).mode ≡ m → Every (GoesWhole w a) waiting → Every (λ (f : Frame). f.prio < least_whole w.net.express_from m) waiting → waiting ≡ []
-  none_waits m is all low = go m is waiting all low
-    where
-      go : (m : Mode) → (arc w a).mode ≡ m → (fs : List Frame) → Every (GoesWhole w a) fs → Every (λ (f : Frame). f.prio < least_whole w.net.express_from m) fs → fs ≡ []
-      go m is [] all low = refl
-      go mode.Off is (f ∷ fs) all (low, rest) = absurd (omega (arith, low))
-      go mode.On is (f ∷ fs) (goes, more) (low, rest) = let off = goes low in absurd (cc (sym is ∙ off))
-      go mode.Negotiate is (f ∷ fs) all low = absurd (talks is)
-
-  pub idle_starts : (m : Mode) → (arc w a).mode ≡ m → Every (GoesWhole w a) waiting → Every (λ (f : Frame). f.prio < least_whole w.net.express_from m) waiting → HappensIn w h t (Phase.starts a) []
+  pub idle_starts : ((p : ℕ) → Waiting h a p t ≡ []) → HappensIn w h t (Phase.starts a) []
   unfolding HappensIn StartRule
-  idle_starts m is all low =
-      let none : (p : ℕ) → Waiting h a p t ≡ [] = λ p. waits p ∙ ap (numbers_of p) (none_waits m is all low) in
-      inr ((λ e due. nothing_there none due.1.1.0 due.0 due.1.1.1), refl)
+  idle_starts none = inr ((λ e due. nothing_there none due.1.1.0 due.0 due.1.1.1), refl)
 
   -- a preemptable frame isn't due on an arc that is active
   off_never : (arc w a).mode ≡ mode.Off → Active w h a t → ⊥
   unfolding Active
   off_never off active = subst (λ m. ActiveIn w h a m t) off active
 
-  module _ (least at : ℕ) (is : IsFirstHighest least waiting at) (below : is.frame.prio < 8) (free : ¬ Occupied w h a t) where
+  module _ (prio : ℕ) (frame : FrameNo) (behind : List ℕ) (below : prio < 8) (front : Waiting h a prio t ≡ frame.0 ∷ behind) (above : (q : ℕ) → prio < q → Waiting h a q t ≡ []) (free : ¬ Occupied w h a t) where
     abbrev begins : PlainEvent
-    begins = PlainEvent.begin (record { tick = t; arc = a; ord = length (Begins h a); kind = kind.Express; what = what.Frame is.frame.number; from = 0 })
-
-    front : (behind : List ℕ) × (Waiting h a is.frame.prio t ≡ is.frame.number.0 ∷ behind)
-    front = let f = first_number waiting at is.frame is.here is.first in (f.0, waits is.frame.prio ∙ f.1)
-
-    above : (q : ℕ) → is.frame.prio < q → Waiting h a q t ≡ []
-    above q lt = waits q ∙ none_above q is.frame.prio waiting is.most lt
+    begins = PlainEvent.begin (record { tick = t; arc = a; ord = length (Begins h a); kind = kind.Express; what = what.Frame frame; from = 0 })
 
     -- an express frame comes first
-    express_starts : w.net.express_from ≤ is.frame.prio → HappensIn w h t (Phase.starts a) (begins ∷ [])
+    express_starts : w.net.express_from ≤ prio → HappensIn w h t (Phase.starts a) (begins ∷ [])
     unfolding HappensIn StartRule
     express_starts from =
-        let first : IsFront w h a t w.net.express_from 8 is.frame.number.0 = (is.frame.prio, from, below, front, λ q lt lt'. above q lt) in
-        inl (begins, (whole_frame is.frame.number.0 kind.Express, (free, (Item.express, (is.frame.number.0, first, refl), λ j d lt. nothing_before j d lt)), refl), refl)
+        let first : IsFront w h a t w.net.express_from 8 frame.0 = (prio, from, below, (behind, front), λ q lt lt'. above q lt) in
+        inl (begins, (whole_frame frame.0 kind.Express, (free, (Item.express, (frame.0, first, refl), λ j d lt. nothing_before j d lt)), refl), refl)
 
     -- nothing else is there, where it isn't express
-    nothing_else : is.frame.prio < w.net.express_from → (i : Item) (c : Choice) → place i < 6 → There w h a t i c → ⊥
-    nothing_else low Item.express c lt (f, (p, from, to, (behind, has), others), so) = cc (above p (omega (arith, low, from)), has)
+    nothing_else : prio < w.net.express_from → (i : Item) (c : Choice) → place i < 6 → There w h a t i c → ⊥
+    nothing_else low Item.express c lt (f, (p, from, to, (behind', has), others), so) = cc (above p (omega (arith, low, from)), has)
     nothing_else low Item.respond c lt (negotiates, more, so) = talks negotiates
     nothing_else low Item.verify c lt (negotiates, more, so) = talks negotiates
     nothing_else low Item.lldp c lt (negotiates, more, so) = talks negotiates
@@ -140,16 +129,16 @@ module _ (w : Scenario) (h : History) (t a : ℕ) (talks : (arc w a).mode ≢ mo
     nothing_else low Item.preemptable c lt there' = omega (arith, lt)
 
     -- then a preemptable one goes whole, on an arc that never preempts
-    preemptable_starts : is.frame.prio < w.net.express_from → (arc w a).mode ≡ mode.Off → HappensIn w h t (Phase.starts a) (begins ∷ [])
+    preemptable_starts : prio < w.net.express_from → (arc w a).mode ≡ mode.Off → HappensIn w h t (Phase.starts a) (begins ∷ [])
     unfolding HappensIn StartRule
     preemptable_starts low off =
-        let first : IsFront w h a t 0 w.net.express_from is.frame.number.0 = (is.frame.prio, omega arith, low, front, λ q lt lt'. above q lt) in
+        let first : IsFront w h a t 0 w.net.express_from frame.0 = (prio, omega arith, low, (behind, front), λ q lt lt'. above q lt) in
         let goes : PreemptableAs w h a t kind.Express = inr (off_never off, inl off, refl) in
-        inl (begins, (whole_frame is.frame.number.0 kind.Express, (free, (Item.preemptable, (is.frame.number.0, kind.Express, first, goes, refl), λ j d lt. nothing_else low j d lt)), refl), refl)
+        inl (begins, (whole_frame frame.0 kind.Express, (free, (Item.preemptable, (frame.0, kind.Express, first, goes, refl), λ j d lt. nothing_else low j d lt)), refl), refl)
 
     -- the frame that is due begins on a free arc
-    pub frame_starts : GoesWhole w a is.frame → HappensIn w h t (Phase.starts a) (begins ∷ [])
-    frame_starts goes = elim (cases_lt is.frame.prio w.net.express_from) [
+    pub frame_starts : (prio < w.net.express_from → (arc w a).mode ≡ mode.Off) → HappensIn w h t (Phase.starts a) (begins ∷ [])
+    frame_starts goes = elim (cases_lt prio w.net.express_from) [
       | inl low ↦ preemptable_starts low (goes low)
       | inr high ↦ express_starts high
     ]

@@ -1,8 +1,7 @@
 -- What a step tells, by what its tick told.
 use Rattle.std.proofs.Common.{ℕ, ◌≡◌, ◌+◌, ◌*◌, Bool, true, false, List, [], ◌∷◌, ◌++◌, length, refl, sym, ◌∙◌, ap, arith, subst, None}
-use Rattle.std.specs.Prelude.{All}
-use Rattle.std.specs.List.{AllByRecursion as Every}
-use Rattle.pre_trace.specs.Scenario.{Scenario}
+use Rattle.std.specs.Prelude.{All, zero, suc, map, replicate, slice_index_or}
+use Rattle.pre_trace.specs.Scenario.{Scenario, arc}
 use Rattle.pre_trace.specs.Moments.{moments}
 use Rattle.pre_trace.specs.History.{PlainEvent, History}
 use Rattle.pre_trace.specs.Written.{IsWritten, AreWritten}
@@ -15,7 +14,11 @@ use Rattle.pre_sim.specs.declared.runs.Step.TheVariants as step
 use Rattle.pre_sim.specs.declared.ticks.Progress.{Progress}
 use Rattle.pre_sim.specs.Reach.{CanRun}
 use Rattle.pre_sim.specs.Telling.{TellsAll}
-use Rattle.pre_sim.specs.Stands.{IsLane, IsIdle, AreInside, StillWaiting, LaneStands, Reaches}
+use Rattle.pre_rings.specs.declared.slots.FrameRef.{FrameRef}
+use Rattle.pre_bridge.specs.Relays.{Stands}
+use Rattle.pre_sim.specs.Keeps.{IsKept}
+use Rattle.pre_sim.specs.Lanes.{IsIdle, AreIdle}
+use Rattle.pre_sim.specs.Stands.{IsLane, StillWaiting, LaneStands, Reaches}
 use Rattle.pre_sim.specs.declared.halts.Halt.{Halt}
 use Rattle.pre_sim.specs.declared.halts.Halt.TheVariants.{Stopped, Memory}
 use Rattle.std.specs.Prelude.{Err}
@@ -23,7 +26,6 @@ use Rattle.pre_sim.specs.Parts.{TellsPart, TickPart, AdvancePart, AdvanceFront, 
 use Rattle.pre_sim.specs.Views.{SimView, HasTold}
 use Rattle.pre_sim.specs.Steps.{StepTells}
 use Rattle.pre_sim.proofs.Direct.{is_plain}
-use Rattle.pre_sim.proofs.Lists.{every_at}
 
 abbrev Takes : Type 1
 Takes = List ℕ → History → Type 0
@@ -76,37 +78,44 @@ module _ (s v u : SimView) (same : s ≡ v) (a b : Takes) (torn : Fails) (d : Ha
 
 -- ---- the beginning
 
+-- no ring of a lane at rest has a frame
+none_at : (n p : ℕ) → slice_index_or {A = List FrameRef} (replicate n []) p [] ≡ []
+none_at zero p = refl
+none_at (suc n) zero = refl
+none_at (suc n) (suc p) = none_at n p
+
 -- at the beginning all lanes are idle
-idle_stands : (w : Scenario) (a t : ℕ) (lane : Lane) → IsIdle lane → LaneStands w [] a t lane
+idle_stands : (w : Scenario) (a t : ℕ) (capacities : List ℕ) (lane : Lane) → IsIdle capacities lane → LaneStands w [] a t lane []
 unfolding StillWaiting
-idle_stands w a t lane is =
+idle_stands w a t capacities lane is =
     let IsNew = IsLane w a [] [] 0 (λ p. []) in
-    let zero_ : IsNew [] None 0 0 [] = record {
+    let zero_ : IsNew (record { frames = replicate 8 []; capacities = capacities }) None 0 0 [] = record {
       begun_is = refl;
       sent_is = refl;
       free = record { behind = tt; least = λ lt. absurd (omega (arith, lt)) };
       flies = tt;
-      waits_are = λ p. refl;
+      waits_are = λ p. ap (map (λ (f : FrameRef). f.frame.0)) (none_at 8 p);
       fits = λ p. omega arith;
-      frames = tt;
-      apart = tt;
-      goes = tt;
+      apart = λ p. tt;
       whole = tt;
     } in
-    let one = subst (λ xs. IsNew xs None 0 0 []) (sym is.waiting) zero_ in
-    let two = subst (λ o. IsNew lane.waiting.items o 0 0 []) (sym is.sending) one in
-    let three = subst (λ n. IsNew lane.waiting.items lane.sending n 0 []) (sym is.free) two in
-    let four = subst (λ n. IsNew lane.waiting.items lane.sending lane.free_from.0 n []) (sym is.begun) three in
+    let one = subst (λ xs. IsNew xs None 0 0 []) (sym is.rings) zero_ in
+    let two = subst (λ o. IsNew lane.rings o 0 0 []) (sym is.sending) one in
+    let three = subst (λ n. IsNew lane.rings lane.sending n 0 []) (sym is.free) two in
+    let four = subst (λ n. IsNew lane.rings lane.sending lane.free_from.0 n []) (sym is.begun) three in
     record {
-      on = subst (IsNew lane.waiting.items lane.sending lane.free_from.0 lane.begun) (sym is.flying) four;
-      inside = subst (AreInside w a [] [] t) (sym is.inside) (record { gone = 0; few = omega arith; past = tt; later = tt; are = refl; frames = tt });
+      on = subst (IsNew lane.rings lane.sending lane.free_from.0 lane.begun) (sym is.flying) four;
+      inside = record { gone = 0; few = omega arith; past = tt; later = tt; are = refl };
     }
 
-pub has_told_nothing : NoAlias → (s : SimView) → CanRun s.run.net s.run.streams s.run.script → s.next ≡ 0 → s.progress.sent ≡ 0 → s.progress.delivered ≡ 0 → s.progress.dropped ≡ 0 → Every IsIdle s.progress.lanes.items → HasTold s []
-has_told_nothing no_alias s can next sent delivered dropped idle =
+pub has_told_nothing : NoAlias → (s : SimView) → CanRun s.run.net s.run.streams s.run.script → s.next ≡ 0 → s.progress.sent ≡ 0 → s.progress.delivered ≡ 0 → s.progress.dropped ≡ 0 → AreIdle s.run.net.arcs s.progress.lanes.items
+    → Stands s.progress.relay s.run.net s.run.streams [] → HasTold s []
+has_told_nothing no_alias s can next sent delivered dropped idle stands =
     has_told no_alias s [] can (record {
       legal = subst (λ n. LegalUpTo s.run n []) (sym (start next)) refl;
-      lanes = λ a lane at. idle_stands s.run a s.next lane (every_at IsIdle s.progress.lanes.items a lane idle at);
+      calls = [];
+      relay = stands;
+      lanes = λ a lane at. idle_stands s.run a s.next (arc s.run a).rings lane (idle.each a lane at);
       sends = record {
         within = omega (arith, sent);
         past = λ k lt. absurd (omega (arith, lt, sent));
@@ -121,3 +130,7 @@ has_told_nothing no_alias s can next sent delivered dropped idle =
 
     start : s.next ≡ 0 → number (length s.run.net.arcs) s.next 0 ≡ 0
     start is = ap (λ t. number (length s.run.net.arcs) t 0) is ∙ none (moments (length s.run.net.arcs))
+
+-- so it is at a later tick
+pub kept_later : (w : Scenario) (t : ℕ) (p : Progress) → IsKept w t p → IsKept w (t + 1) p
+kept_later w t p kept = record { calls = kept.calls; stands = kept.stands; latest = omega (arith, kept.latest); keeps = kept.keeps }

@@ -1,6 +1,6 @@
 -- What was told by a part that tells one event, or none.
 use Rattle.std.proofs.Common.{◌≡◌, ℕ, List, [], ◌∷◌, ◌++◌, Result, Ok, Err, refl, sym, subst, append_assoc}
-use Rattle.std.specs.Result.{IsErr, IsErrAnd}
+use Rattle.std.specs.Result.{IsErr, IsErrAnd, OnOk}
 use Rattle.std.proofs.Common.{Bool, true, false}
 use mir.Val.{bool_byte}
 use Rattle.std.proofs.lemmas.Bool.{false≢true}
@@ -69,6 +69,11 @@ then_part net (Err Stopped) a b c torn es Whole Whole' Front Front' told part mo
   λ base h t. subst (λ g. torn base g part.1) (append_assoc h es part.0) (part.4 base (h ++ es) (told.1 base h t)),
   subst Front' (sym (append_assoc es part.0 (part.1 ∷ []))) (front (part.0 ++ part.1 ∷ []) part.5),
 )
+
+-- what holds after a whole part
+pub on_ok : {T : Type 0} (net : Network) (r : Result T Halt) (old new : Takes) (torn : Fails) (Whole : T → History → Type 0) (Front : History → Type 0) (P : Type 0) → TellsPart net r old new torn Whole Front → ((x : T) (es : History) → Whole x es → P) → OnOk r P
+on_ok net (Ok x) old new torn Whole Front P told says = says x told.0 told.2
+on_ok net (Err d) old new torn Whole Front P told says = tt
 
 -- the number that a test is
 pub byte_of : (b : Bool) → bool_byte b ≡ count_of b

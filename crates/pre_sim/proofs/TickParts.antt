@@ -14,17 +14,18 @@ use Rattle.pre_trace.specs.Moments.{Phase, moments}
 use Rattle.pre_trace.specs.History.{PlainEvent, History, Delivery}
 use Rattle.pre_trace.specs.Selected.{delivery_of, is_dropped}
 use Rattle.pre_trace.specs.Queries.{Arrivals, Deliveries}
-use Rattle.pre_trace.specs.Placed.{number, AllBefore}
-use Rattle.pre_trace.specs.Ordered.{IsOrdered}
-use Rattle.pre_sim.specs.Sends.{AreSettled}
-use Rattle.pre_sim.proofs.Settling.{lanes_settle}
+use Rattle.pre_trace.specs.Placed.{number}
+use Rattle.pre_bridge.specs.declared.relays.Relay.{Relay}
+use Rattle.pre_bridge.specs.Inside.{Call, Entry, inside}
+use Rattle.pre_bridge.specs.Relays.{Stands}
+use Rattle.pre_sim.specs.Keeps.{Store, Keeps, IsKept}
 use Rattle.pre_trace.specs.Deliveries.{DeliversOnce}
 use Rattle.pre_trace.specs.Legal.{LegalUpTo, Legal, Alias, CountLines, closing, last_moment}
 use Rattle.pre_sim.specs.declared.lanes.Lane.{Lane}
 use Rattle.pre_sim.specs.declared.ticks.Progress.{Progress}
 use Rattle.pre_sim.specs.Reach.{CanRun}
 use Rattle.pre_sim.specs.Stands.{LanesStand, AreSentBefore, Reaches}
-use Rattle.pre_sim.specs.Parts.{LegalAt, IsFront, LanesPart, LanesFront, EntriesPart, EntriesFront, Carries, CarriesFront, TickPart, TickFront, AdvancePart, AdvanceFront, closing_event}
+use Rattle.pre_sim.specs.Parts.{LegalAt, IsFront, LanesPart, LanesFront, ArrivalsPart, EntriesPart, EntriesFront, Carries, CarriesFront, TickPart, TickFront, AdvancePart, AdvanceFront, closing_event}
 use Rattle.pre_sim.proofs.Lists.{count_by-append}
 use Rattle.pre_sim.proofs.Moments.{one_more, expiries_place}
 use Rattle.pre_sim.proofs.Calm.{calm_sets, calm_expiries}
@@ -55,12 +56,6 @@ few_delivered n ds known pairs =
     let few = length-le_from_distinct_below (map (λ (d : Delivery). d.frame) ds) n (IsDistinct-from_AllPairs Decides-eqb (map (λ (d : Delivery). d.frame) ds) (apart ds pairs)) (below_all n ds (recursion_from_All (λ (d : Delivery). d.frame < n) ds known)) in
     omega (arith, few, long)
 
-abbrev pub Orders : Type 0
-Orders = (w : Scenario) (n : ℕ) (h : History) (a : ℕ) → a < length w.net.arcs → LegalUpTo w n h → IsOrdered w h a
-
-abbrev pub Befores : Type 0
-Befores = (w : Scenario) (n : ℕ) (h : History) → LegalUpTo w n h → AllBefore (length w.net.arcs) n h
-
 module _ (w : Scenario) (can : CanRun w.net w.streams w.script) where
   abbrev A : ℕ
   A = length w.net.arcs
@@ -83,58 +78,86 @@ module _ (w : Scenario) (can : CanRun w.net w.streams w.script) where
       next : (x y : ℕ) → x + y + 1 ≡ x + suc y
       next x y = omega arith
 
-  module _ (t d : ℕ) (old new : Progress) (a b c e : List Lane) (es fs : History) (is_a : a ≡ old.lanes.items) (first : LanesPart w.net t 1 A 0 a b es) (is_c : c ≡ b) where
-    first_done : (h : History) → Reaches w t 0 t h old → LegalAt w t (1 + A) (h ++ es) × LanesStand w (h ++ es) t c
+  module _ (t : ℕ) (old : Progress) (store' : Store) (a b c : List Lane) (es : History) (is_a : a ≡ old.lanes.items) (first : LanesPart w t 1 A 0 t old.store store' a b [] es) (is_c : c ≡ b) where
+    first_done : (h : History) → (r : Reaches w t 0 t h old) → LegalAt w t (1 + A) (h ++ es) × LanesStand w (h ++ es) t c (inside w.net w.streams r.calls)
     first_done h r =
-        let done = first.legal w refl can h (after_sets t h r.legal) (subst (LanesStand w h t) (sym is_a) r.lanes) in
-        (done.0, subst (LanesStand w (h ++ es) t) (sym is_c) done.1)
+        let entries = inside w.net w.streams r.calls in
+        let done = first.legal h entries (after_sets t h r.legal) (subst (λ ls. LanesStand w h t ls entries) (sym is_a) r.lanes) in
+        (done.0, subst (λ ls. LanesStand w (h ++ es) t ls entries) (sym is_c) (subst (LanesStand w (h ++ es) t b) (append-nil entries) done.1))
+
+    pub first_kept : (entries : List Entry) → Keeps w old.store old.lanes.items entries [] → Keeps w store' c entries []
+    first_kept entries keeps =
+        let done = first.keeps entries (subst (λ ls. Keeps w old.store ls entries []) (sym is_a) keeps) in
+        subst (λ ls. Keeps w store' ls entries []) (sym is_c) (subst (λ xs. Keeps w store' b xs []) (append-nil entries) done)
 
     -- the ends and arrivals of a tick
-    pub landed : LanesPart w.net t (1 + A) A d c e fs → new.lanes.items ≡ e → new.sent ≡ old.sent → new.dropped ≡ old.dropped → new.delivered ≡ min (old.delivered + d) (2 ^ 64 - 1)
-        → ((n : ℕ) (h : History) → LegalUpTo w n h → DeliversOnce w h) → Carries w t 0 t t (1 + 3 * A) t old new (es ++ fs)
-    landed second is_new sent dropped delivered once h r =
-        let one = first_done h r in
-        let two = second.legal w refl can (h ++ es) one.0 one.1 in
-        let legal' : LegalAt w t (1 + 2 * A) ((h ++ es) ++ fs) = subst (λ m. LegalAt w t m ((h ++ es) ++ fs)) (omega arith) two.0 in
-        let legal : LegalAt w t (1 + 3 * A) ((h ++ es) ++ fs) = subst (λ m. LegalAt w t m ((h ++ es) ++ fs)) (omega arith) (expired t A ((h ++ es) ++ fs) (omega arith) legal') in
-        let all : length (Deliveries ((h ++ es) ++ fs)) ≡ length (Deliveries h) + 0 + d
-        = ap length (filter_map-append delivery_of (h ++ es) fs) ∙ (length-append (Deliveries (h ++ es)) (Deliveries fs)
-        ∙ adds (ap length (filter_map-append delivery_of h es) ∙ (length-append (Deliveries h) (Deliveries es) ∙ adds refl first.deliveries)) second.deliveries) in
-        let drops : count_by is_dropped ((h ++ es) ++ fs) ≡ count_by is_dropped h + 0 + 0
-        = count_by-append is_dropped (h ++ es) fs ∙ adds (count_by-append is_dropped h es ∙ adds refl first.drops) second.drops in
-        let o = once (number A t (1 + 3 * A)) ((h ++ es) ++ fs) legal in
-        let few : length (Deliveries ((h ++ es) ++ fs)) ≤ length w.script.sends = few_delivered (length w.script.sends) (Deliveries ((h ++ es) ++ fs)) o.known o.once in
-        let long : length w.script.sends ≤ 100000 = can.script_fits.sends_count in
-        subst (λ g. Reaches w t (1 + 3 * A) t g new) (append_assoc h es fs) (record {
-          legal = legal;
-          lanes = subst (LanesStand w ((h ++ es) ++ fs) t) (sym is_new) two.1;
-          sends = subst (AreSentBefore w t) (sym sent) r.sends;
-          deliveries = omega (arith, all, few, long, delivered, r.deliveries);
-          drops = dropped ∙ (r.drops ∙ omega (arith, drops));
-        })
-      where
-        adds : {a b c e : ℕ} → a ≡ b → c ≡ e → a + c ≡ b + e
-        adds p q = omega (arith, p, q)
+    module _ (new : Progress) (d : ℕ) (e : List Lane) (fs : History) (second : ArrivalsPart w t (1 + A) A d store' new.store old.relay new.relay c e fs) (is_new : new.lanes.items ≡ e) where
+      pub landed : new.sent ≡ old.sent → new.dropped ≡ old.dropped → new.delivered ≡ min (old.delivered + d) (2 ^ 64 - 1) → ((n : ℕ) (h : History) → LegalUpTo w n h → DeliversOnce w h) → Carries w t 0 t t (1 + 3 * A) t old new (es ++ fs)
+      landed sent dropped delivered once h r =
+          let more = second.0 in
+          let entries = inside w.net w.streams r.calls in
+          let one = first_done h r in
+          let two = second.1.legal (h ++ es) entries one.0 one.1 in
+          let taken = second.2 r.calls r.relay in
+          let legal' : LegalAt w t (1 + 2 * A) ((h ++ es) ++ fs) = subst (λ m. LegalAt w t m ((h ++ es) ++ fs)) (omega arith) two.0 in
+          let legal : LegalAt w t (1 + 3 * A) ((h ++ es) ++ fs) = subst (λ m. LegalAt w t m ((h ++ es) ++ fs)) (omega arith) (expired t A ((h ++ es) ++ fs) (omega arith) legal') in
+          let all : length (Deliveries ((h ++ es) ++ fs)) ≡ length (Deliveries h) + 0 + d
+          = ap length (filter_map-append delivery_of (h ++ es) fs) ∙ (length-append (Deliveries (h ++ es)) (Deliveries fs)
+          ∙ adds (ap length (filter_map-append delivery_of h es) ∙ (length-append (Deliveries h) (Deliveries es) ∙ adds refl first.deliveries)) second.1.deliveries) in
+          let drops : count_by is_dropped ((h ++ es) ++ fs) ≡ count_by is_dropped h + 0 + 0
+          = count_by-append is_dropped (h ++ es) fs ∙ adds (count_by-append is_dropped h es ∙ adds refl first.drops) second.1.drops in
+          let o = once (number A t (1 + 3 * A)) ((h ++ es) ++ fs) legal in
+          let few : length (Deliveries ((h ++ es) ++ fs)) ≤ length w.script.sends = few_delivered (length w.script.sends) (Deliveries ((h ++ es) ++ fs)) o.known o.once in
+          let long : length w.script.sends ≤ 100000 = can.script_fits.sends_count in
+          subst (λ g. Reaches w t (1 + 3 * A) t g new) (append_assoc h es fs) (record {
+            legal = legal;
+            calls = taken.0;
+            relay = taken.1;
+            lanes = subst (λ ls. LanesStand w ((h ++ es) ++ fs) t ls (inside w.net w.streams taken.0)) (sym is_new) (subst (LanesStand w ((h ++ es) ++ fs) t e) (sym taken.2) two.1);
+            sends = subst (AreSentBefore w t) (sym sent) r.sends;
+            deliveries = omega (arith, all, few, long, delivered, r.deliveries);
+            drops = dropped ∙ (r.drops ∙ omega (arith, drops));
+          })
+        where
+          adds : {a b c e : ℕ} → a ≡ b → c ≡ e → a + c ≡ b + e
+          adds p q = omega (arith, p, q)
+
+      -- each frame keeps a slot of its own
+      pub landed_kept : new.relay.latest.0 ≤ t → IsKept w t old → IsKept w t new
+      landed_kept latest kept =
+          let entries = inside w.net w.streams kept.calls in
+          let taken = second.2 kept.calls kept.stands in
+          let keeps = second.1.keeps entries (first_kept entries kept.keeps) in
+          record {
+            calls = taken.0;
+            stands = taken.1;
+            latest = latest;
+            keeps = subst (λ ls. Keeps w new.store ls (inside w.net w.streams taken.0) []) (sym is_new) (subst (λ xs. Keeps w new.store e xs []) (sym taken.2) keeps);
+          }
 
     -- it ended early
-    pub landed_front : LanesFront w.net t (1 + A) c fs → CarriesFront w t 0 t old (es ++ fs)
-    landed_front front h r = let one = first_done h r in subst (IsFront w) (append_assoc h es fs) (front w refl can (h ++ es) one.0 one.1)
+    pub landed_front : (fs : History) → LanesFront w t (1 + A) t c fs → CarriesFront w t 0 t old (es ++ fs)
+    landed_front fs front h r = let one = first_done h r in subst (IsFront w) (append_assoc h es fs) (front (h ++ es) (inside w.net w.streams r.calls) one.0 one.1)
 
-  pub ends_front : (t : ℕ) (old : Progress) (a : List Lane) (es : History) → a ≡ old.lanes.items → LanesFront w.net t 1 a es → CarriesFront w t 0 t old es
-  ends_front t old a es is_a front h r = front w refl can h (after_sets t h r.legal) (subst (LanesStand w h t) (sym is_a) r.lanes)
+  pub ends_front : (t : ℕ) (old : Progress) (a : List Lane) (es : History) → a ≡ old.lanes.items → LanesFront w t 1 t a es → CarriesFront w t 0 t old es
+  ends_front t old a es is_a front h r =
+      let entries = inside w.net w.streams r.calls in
+      front h entries (after_sets t h r.legal) (subst (λ ls. LanesStand w h t ls entries) (sym is_a) r.lanes)
 
   module _ (t : ℕ) (old mid : Progress) (c e : List Lane) (es fs : History) (first : EntriesPart w t old mid es) (is_c : c ≡ mid.lanes.items) where
-    entered : (h : History) → Reaches w t (1 + 3 * A) t h old → LegalAt w t (2 + 3 * A) (h ++ es) × LanesStand w (h ++ es) t c × AreSentBefore w (t + 1) mid.sent
+    entered : (h : History) → Reaches w t (1 + 3 * A) t h old → LegalAt w t (2 + 3 * A) (h ++ es) × AreSentBefore w (t + 1) mid.sent × ((calls : List Call) × Stands mid.relay w.net w.streams calls × LanesStand w (h ++ es) (t + 1) c (inside w.net w.streams calls))
     entered h r =
-        let done = first.legal h r.legal r.lanes r.sends in
-        (done.0, subst (LanesStand w (h ++ es) t) (sym is_c) done.1, done.2)
+        let done = first.legal h r.calls r.legal r.relay r.lanes r.sends in
+        (done.0, done.1, (done.2.0, done.2.1, subst (λ ls. LanesStand w (h ++ es) (t + 1) ls (inside w.net w.streams done.2.0)) (sym is_c) done.2.2))
 
     -- the entries and starts of a tick
-    pub left : (new : Progress) → LanesPart w.net t (2 + 3 * A) A 0 c e fs → length e ≡ A → AreSettled t e new.lanes.items → Orders → Befores → new.sent ≡ mid.sent → new.dropped ≡ mid.dropped → new.delivered ≡ mid.delivered
+    pub left : (new : Progress) (store : Store) → LanesPart w t (2 + 3 * A) A 0 (t + 1) store store c e [] fs → new.lanes.items ≡ e → new.relay ≡ mid.relay → new.sent ≡ mid.sent → new.dropped ≡ mid.dropped → new.delivered ≡ mid.delivered
         → Carries w t (1 + 3 * A) t (t + 1) 0 (t + 1) old new (es ++ fs)
-    left new second many settled order before sent dropped delivered h r =
+    left new store second is_new relay sent dropped delivered h r =
         let one = entered h r in
-        let two = second.legal w refl can (h ++ es) one.0 one.1 in
+        let calls = one.2.0 in
+        let entries = inside w.net w.streams calls in
+        let two = second.legal (h ++ es) entries one.0 one.2.2 in
         let legal : LegalAt w (t + 1) 0 ((h ++ es) ++ fs) = subst (λ m. LegalUpTo w m ((h ++ es) ++ fs)) (omega arith) two.0 in
         let all : length (Deliveries ((h ++ es) ++ fs)) ≡ length (Deliveries h) + 0 + 0
         = ap length (filter_map-append delivery_of (h ++ es) fs) ∙ (length-append (Deliveries (h ++ es)) (Deliveries fs)
@@ -143,8 +166,10 @@ module _ (w : Scenario) (can : CanRun w.net w.streams w.script) where
         = count_by-append is_dropped (h ++ es) fs ∙ adds (count_by-append is_dropped h es) second.drops in
         subst (λ g. Reaches w (t + 1) 0 (t + 1) g new) (append_assoc h es fs) (record {
           legal = legal;
-          lanes = lanes_settle w t ((h ++ es) ++ fs) legal (λ a lt. order w (number A (t + 1) 0) ((h ++ es) ++ fs) a lt legal) (before w (number A (t + 1) 0) ((h ++ es) ++ fs) legal) e new.lanes.items many settled two.1;
-          sends = subst (AreSentBefore w (t + 1)) (sym sent) one.2;
+          calls = calls;
+          relay = subst (λ (x : Relay). Stands x w.net w.streams calls) (sym relay) one.2.1;
+          lanes = subst (λ ls. LanesStand w ((h ++ es) ++ fs) (t + 1) ls entries) (sym is_new) (subst (LanesStand w ((h ++ es) ++ fs) (t + 1) e) (append-nil entries) two.1);
+          sends = subst (AreSentBefore w (t + 1)) (sym sent) one.1;
           deliveries = omega (arith, all, delivered, first.delivered, r.deliveries);
           drops = omega (arith, drops, dropped, first.drops, r.drops);
         })
@@ -152,11 +177,25 @@ module _ (w : Scenario) (can : CanRun w.net w.streams w.script) where
         adds : {a b c e : ℕ} → a ≡ b → c ≡ e → a + c ≡ b + e
         adds p q = omega (arith, p, q)
 
-    pub left_front : LanesFront w.net t (2 + 3 * A) c fs → CarriesFront w t (1 + 3 * A) t old (es ++ fs)
-    left_front front h r = let one = entered h r in subst (IsFront w) (append_assoc h es fs) (front w refl can (h ++ es) one.0 one.1)
+    pub left_front : LanesFront w t (2 + 3 * A) (t + 1) c fs → CarriesFront w t (1 + 3 * A) t old (es ++ fs)
+    left_front front h r = let one = entered h r in subst (IsFront w) (append_assoc h es fs) (front (h ++ es) (inside w.net w.streams one.2.0) one.0 one.2.2)
+
+  -- after the starts each frame keeps a slot of its own
+  pub left_kept : (t : ℕ) (mid new : Progress) (c e : List Lane) (fs : History) → c ≡ mid.lanes.items → LanesPart w t (2 + 3 * A) A 0 (t + 1) mid.store mid.store c e [] fs → new.lanes.items ≡ e → new.relay ≡ mid.relay → new.store ≡ mid.store
+      → IsKept w t mid → IsKept w t new
+  left_kept t mid new c e fs is_c part is_new relay store kept =
+      let entries = inside w.net w.streams kept.calls in
+      let keeps = part.keeps entries (subst (λ ls. Keeps w mid.store ls entries []) (sym is_c) kept.keeps) in
+      let here = subst (λ ls. Keeps w mid.store ls entries []) (sym is_new) (subst (λ xs. Keeps w mid.store e xs []) (append-nil entries) keeps) in
+      record {
+        calls = kept.calls;
+        stands = subst (λ (x : Relay). Stands x w.net w.streams kept.calls) (sym relay) kept.stands;
+        latest = subst (λ (x : Relay). x.latest.0 ≤ t) (sym relay) kept.latest;
+        keeps = subst (λ s. Keeps w s new.lanes.items entries []) (sym store) here;
+      }
 
   pub entries_front : (t : ℕ) (old : Progress) (es : History) → EntriesFront w t old es → CarriesFront w t (1 + 3 * A) t old es
-  entries_front t old es front h r = front h r.legal r.lanes r.sends
+  entries_front t old es front h r = front h r.calls r.legal r.relay r.lanes r.sends
 
 -- ---- one part after another
 

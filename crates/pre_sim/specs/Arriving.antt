@@ -1,38 +1,36 @@
--- What the arrival of a frame tells, where it stays inside a bridge and where it is delivered.
-use Rattle.std.specs.Prelude.{ℕ, ◌+◌, ◌≡◌, ◌⊎◌, List, [], ◌∷◌, ◌++◌, slice_index_or}
-use Rattle.pre_base.specs.declared.numbers.ArcId.{ArcId}
+-- What the arrival of a frame tells, and what becomes of the frame.
+use Rattle.std.specs.Prelude.{ℕ, ◌≡◌, ◌≢◌, Bool, true, false, List, [], ◌∷◌, ◌++◌, length, slice_get, set, slice_index_or, Some, None}
+use Rattle.pre_rings.specs.declared.slots.FrameRef.{FrameRef}
 use Rattle.pre_topo.specs.declared.network.Network.{Network}
-use Rattle.pre_topo.specs.Arcs.{latency_at}
 use Rattle.pre_trace.specs.declared.events.Outcome.TheVariants as outcome
-use Rattle.pre_trace.specs.Scenario.{no_arc}
-use Rattle.pre_trace.specs.History.{PlainEvent, History}
+use Rattle.pre_trace.specs.Scenario.{Scenario, no_arc}
+use Rattle.pre_trace.specs.History.{PlainEvent}
+use Rattle.pre_bridge.specs.declared.relays.Relay.{Relay}
+use Rattle.pre_bridge.specs.Inside.{Call, delivered}
+use Rattle.pre_bridge.specs.Table as table
+use Rattle.pre_bridge.specs.Relays.{Stands}
 use Rattle.pre_sim.specs.declared.lanes.Flight.{Flight}
-use Rattle.pre_sim.specs.declared.lanes.Passing.{Passing}
-use Rattle.pre_sim.specs.Spelled.{octets_of}
+use Rattle.pre_sim.specs.Keeps.{Store}
 
-abbrev pub arrives_at : (t a : ℕ) → Flight → PlainEvent
-arrives_at t a f = PlainEvent.arrive (record { tick = t; arc = a; ord = f.ord; result = outcome.Frame })
+abbrev pub arrives_at : (t a ord : ℕ) → PlainEvent
+arrives_at t a ord = PlainEvent.arrive (record { tick = t; arc = a; ord = ord; result = outcome.Frame })
 
 abbrev pub delivered_at : Network → (t a : ℕ) → Flight → PlainEvent
-delivered_at net t a f = PlainEvent.deliver (record { tick = t; node = (slice_index_or net.arcs a no_arc).to.0; frame = f.frame.number.0; octets = octets_of f.frame })
+delivered_at net t a f = PlainEvent.deliver (record { tick = t; node = (slice_index_or net.arcs a no_arc).to.0; frame = f.frame.0; octets = f.octets.items })
 
--- how long the node at an arc's end keeps a frame
-abbrev pub stay : Network → ℕ → ℕ
-stay net a = latency_at net.nodes (slice_index_or net.arcs a no_arc).to.0
+-- the frame of the flight, in a slot
+abbrev pub in_slot : Flight → ℕ → FrameRef
+in_slot f slot = record { slot = slot; frame = f.frame; size = length f.octets.items; prio = f.prio; vid = f.vid }
 
--- it stays inside, behind those before it
-abbrev pub KeepsInside : Network → (t a : ℕ) → Flight → ArcId → (old new : List Passing) → History → Type 0
-KeepsInside net t a f next old new es =
-    (es ≡ arrives_at t a f ∷ []) × (new ≡ old ++ record { frame = f.frame; next = next; due = record { 0 = t + stay net a } } ∷ [])
+-- A slot that was in holds the octets, and all others are as before.
+abbrev pub IsStored : Store → List ℕ → ℕ → Store → Type 0
+IsStored store octets slot store' = (slice_get store slot ≡ Some None) × (store' ≡ set store slot (Some octets))
 
--- nothing of it was told, or all
-abbrev pub ArrivalFront : (t a : ℕ) → Flight → History → Type 0
-ArrivalFront t a f es = (es ≡ []) ⊎ (es ≡ arrives_at t a f ∷ [])
-
--- it arrives and is delivered
-abbrev pub IsGiven : Network → (t a : ℕ) → Flight → History → Type 0
-IsGiven net t a f es = es ≡ arrives_at t a f ∷ delivered_at net t a f ∷ []
-
--- the arrival alone was told, or both
-abbrev pub GivenFront : Network → (t a : ℕ) → Flight → History → Type 0
-GivenFront net t a f es = (es ≡ arrives_at t a f ∷ []) ⊎ IsGiven net t a f es
+-- Where a route goes on with the frame, it has a slot and is inside the bridge; where none does, all is as before.
+abbrev pub KeepsInside : Scenario → (t a : ℕ) → Flight → (store store' : Store) → (relay relay' : Relay) → Bool → Type 0
+KeepsInside w t a f store store' relay relay' true =
+    (slot : ℕ) × IsStored store f.octets.items slot store'
+    × ((calls : List Call) → Stands relay w.net w.streams calls
+    → Stands relay' w.net w.streams (calls ++ delivered t a (in_slot f slot) ∷ []) × (table.onward w.net w.streams a f.vid ≢ None))
+KeepsInside w t a f store store' relay relay' false =
+    (store' ≡ store) × (relay' ≡ relay) × ((calls : List Call) → Stands relay w.net w.streams calls → table.onward w.net w.streams a f.vid ≡ None)

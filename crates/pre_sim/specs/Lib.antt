@@ -1,10 +1,12 @@
 pub mod Telling
 pub mod Reach
+pub mod Keeps
+pub mod Stands
+pub mod Lanes
 pub mod Views
 pub mod Steps
 pub mod Told
-pub mod Stands
-pub mod Parts
-pub mod Spelled
 pub mod Sends
+pub mod Parts
 pub mod Arriving
+pub mod Spelled

@@ -1,24 +1,28 @@
 -- What a part of a tick does: from a history that is legal before it to one that is legal after it.
-use Rattle.std.specs.Prelude.{ℕ, ◌+◌, ◌*◌, ◌≡◌, ◌≢◌, ◌<◌, ◌≤◌, ◌⊎◌, slice_index, slice_index_or, Bool, true, false, List, [], ◌∷◌, ◌++◌, length, count_by, cond, nat_le, Result, Ok, Err}
+use Rattle.std.specs.Prelude.{ℕ, ◌+◌, ◌*◌, ◌≡◌, ◌≢◌, ◌<◌, ◌≤◌, ◌⊎◌, Bool, true, false, List, [], ◌∷◌, ◌++◌, length, set, count_by, cond, nat_le, None, Result, Ok, Err}
 use Rattle.std.specs.List.{AllByRecursion as Every}
+use Rattle.pre_rings.specs.declared.slots.FrameRef.{FrameRef}
+use Rattle.pre_rings.specs.Ports.{Port, frames_at, capacity_at, with_frames}
 use Rattle.pre_topo.specs.declared.network.Network.{Network}
-use Rattle.pre_trace.specs.Scenario.{Scenario, no_arc, send}
+use Rattle.pre_trace.specs.Scenario.{Scenario, send}
 use Rattle.pre_trace.specs.Placed.{number}
 use Rattle.pre_trace.specs.History.{PlainEvent, History}
 use Rattle.pre_trace.specs.Written.{IsWritten, AreWritten}
 use Rattle.pre_trace.specs.Selected.{is_dropped}
 use Rattle.pre_trace.specs.Queries.{Deliveries}
 use Rattle.pre_trace.specs.Legal.{LegalUpTo, LegalBefore, Legal}
+use Rattle.pre_bridge.specs.declared.relays.Relay.{Relay}
+use Rattle.pre_bridge.specs.Inside.{Call, Entry, inside}
+use Rattle.pre_bridge.specs.Relays.{Stands}
 use Rattle.pre_sim.specs.declared.halts.Halt.{Halt}
 use Rattle.pre_sim.specs.declared.halts.Halt.TheVariants.{Stopped, Memory}
-use Rattle.pre_sim.specs.declared.plans.Frame.{Frame}
 use Rattle.pre_sim.specs.declared.plans.Plan.{Plan}
 use Rattle.pre_sim.specs.declared.ticks.Progress.{Progress}
 use Rattle.pre_sim.specs.declared.lanes.Lane.{Lane}
 use Rattle.pre_sim.specs.Telling.{TellsAll}
-use Rattle.pre_sim.specs.Reach.{CanRun}
-use Rattle.pre_sim.specs.Stands.{LaneStands, LanesStand, AreSentBefore, Reaches, numbers_of}
-use Rattle.pre_sim.specs.Sends.{ComesPart, ComesFront, sent_frames}
+use Rattle.pre_sim.specs.Keeps.{Store, Keeps, KeepsOn, TakesIn}
+use Rattle.pre_sim.specs.Stands.{LaneStands, LanesStand, AreSentBefore, Reaches}
+use Rattle.pre_sim.specs.Sends.{ComesPart, ComesFront, KeepsCome, comes_to, drops_of, sent_frames}
 
 -- What was told, by how the part ended: a whole part, or the front of one, which ends with the event at which the
 -- watcher failed.
@@ -61,52 +65,68 @@ count_of x = cond x 1 0
 
 -- ---- the part of one arc, at place k of the tick
 
--- so many frames are delivered by it
-module _ (net : Network) (t k a delivered : ℕ) (old new : Lane) where
+-- So many frames are delivered by it, and these come into the bridge at the arc's end. What bridges hand on at ticks before
+-- `due` is over.
+module _ (w : Scenario) (t k a delivered due : ℕ) (store store' : Store) (old new : Lane) (more : List Entry) where
   pub record LanePart (es : History) : Type 0 where
     pub arc : Every (IsOn a) es
     pub deliveries : length (Deliveries es) ≡ delivered
     pub drops : count_by is_dropped es ≡ 0
-    pub legal : (w : Scenario) → w.net ≡ net → CanRun w.net w.streams w.script → (h : History) → LegalAt w t k h → LaneStands w h a t old
-        → LegalAt w t (k + 1) (h ++ es) × LaneStands w (h ++ es) a t new
+    pub here : Every (λ e. e.arc ≡ a) more
+    pub legal : (h : History) (items : List Entry) → LegalAt w t k h → LaneStands w h a due old items
+        → LegalAt w t (k + 1) (h ++ es) × LaneStands w (h ++ es) a due new (items ++ more)
+    pub keeps : KeepsOn w a store store' old new more
 
-module _ (net : Network) (t k a : ℕ) (old : Lane) where
+module _ (w : Scenario) (t k a due : ℕ) (old : Lane) where
   abbrev pub LaneFront : History → Type 0
-  LaneFront es = (w : Scenario) → w.net ≡ net → CanRun w.net w.streams w.script → (h : History) → LegalAt w t k h → LaneStands w h a t old → IsFront w (h ++ es)
+  LaneFront es = (h : History) (items : List Entry) → LegalAt w t k h → LaneStands w h a due old items → IsFront w (h ++ es)
 
 -- ---- the parts of the first n arcs, from place k on
 
-pub record LanesPart (net : Network) (t k n delivered : ℕ) (old new : List Lane) (es : History) : Type 0 where
+pub record LanesPart (w : Scenario) (t k n delivered due : ℕ) (store store' : Store) (old new : List Lane) (more : List Entry) (es : History) : Type 0 where
   pub deliveries : length (Deliveries es) ≡ delivered
   pub drops : count_by is_dropped es ≡ 0
-  pub legal : (w : Scenario) → w.net ≡ net → CanRun w.net w.streams w.script → (h : History) → LegalAt w t k h → LanesStand w h t old
-      → LegalAt w t (k + n) (h ++ es) × LanesStand w (h ++ es) t new
+  pub legal : (h : History) (entries : List Entry) → LegalAt w t k h → LanesStand w h due old entries
+      → LegalAt w t (k + n) (h ++ es) × LanesStand w (h ++ es) due new (entries ++ more)
+  pub keeps : (entries : List Entry) → Keeps w store old entries [] → Keeps w store' new (entries ++ more) []
 
-abbrev pub LanesFront : (net : Network) (t k : ℕ) (old : List Lane) → History → Type 0
-LanesFront net t k old es = (w : Scenario) → w.net ≡ net → CanRun w.net w.streams w.script → (h : History) → LegalAt w t k h → LanesStand w h t old → IsFront w (h ++ es)
+abbrev pub LanesFront : (w : Scenario) (t k due : ℕ) (old : List Lane) → History → Type 0
+LanesFront w t k due old es = (h : History) (entries : List Entry) → LegalAt w t k h → LanesStand w h due old entries → IsFront w (h ++ es)
+
+-- the part of an arc, or of the first n of them, at which frames arrive and go into the relay
+abbrev pub ArrivalPart : (w : Scenario) (t k a delivered : ℕ) → (store store' : Store) → (relay relay' : Relay) → (old new : Lane) → History → Type 0
+ArrivalPart w t k a delivered store store' relay relay' old new es = (more : List Entry) × LanePart w t k a delivered t store store' old new more es × TakesIn w relay relay' more
+
+abbrev pub ArrivalsPart : (w : Scenario) (t k n delivered : ℕ) → (store store' : Store) → (relay relay' : Relay) → (old new : List Lane) → History → Type 0
+ArrivalsPart w t k n delivered store store' relay relay' old new es = (more : List Entry) × LanesPart w t k n delivered t store store' old new more es × TakesIn w relay relay' more
 
 -- ---- the entry of a frame, which is a part of the entries' moment
 
--- a frame that comes to a ring with room enters it and stands at its end, and one that comes to a full ring is dropped
-abbrev pub RingTells : (t a capacity : ℕ) → Frame → (old new : List Frame) → Bool → History → Type 0
-RingTells t a capacity f old new true es =
-    (length (numbers_of f.prio old) < capacity) × (new ≡ old ++ f ∷ []) × (es ≡ PlainEvent.enter (record { tick = t; arc = a; prio = f.prio; frame = f.number.0 }) ∷ [])
-RingTells t a capacity f old new false es =
-    (capacity ≤ length (numbers_of f.prio old)) × (new ≡ old) × (es ≡ PlainEvent.dropped (record { tick = t; arc = a; prio = f.prio; frame = f.number.0 }) ∷ [])
+-- a frame that comes to a ring with room enters it and stands at its end, and one that comes to a full ring is dropped, and
+-- its slot is in again
+abbrev pub RingTells : (t a : ℕ) → FrameRef → (store store' : Store) → (old new : Port) → Bool → History → Type 0
+RingTells t a f store store' old new true es =
+    (length (frames_at old f.prio) < capacity_at old f.prio) × (new ≡ with_frames old f.prio (frames_at old f.prio ++ f ∷ [])) × (store' ≡ store)
+    × (es ≡ PlainEvent.enter (record { tick = t; arc = a; prio = f.prio; frame = f.frame.0 }) ∷ [])
+RingTells t a f store store' old new false es =
+    (capacity_at old f.prio ≤ length (frames_at old f.prio)) × (new ≡ old) × (store' ≡ set store f.slot None)
+    × (es ≡ PlainEvent.dropped (record { tick = t; arc = a; prio = f.prio; frame = f.frame.0 }) ∷ [])
 
--- nothing of it was told, or what it tells
-abbrev pub RingFront : (t a capacity : ℕ) → Frame → (old : List Frame) → History → Type 0
-RingFront t a capacity f old es = (es ≡ []) ⊎ ((new : List Frame) × (entered : Bool) × RingTells t a capacity f old new entered es)
-
--- the capacity of the ring of that priority
-abbrev pub ring_at : Network → ℕ → ℕ → ℕ
-ring_at net a p = slice_index (slice_index_or net.arcs a no_arc).rings p
-
--- ---- the entries of a tick
+-- what it tells
+abbrev pub RingFront : (t a : ℕ) → FrameRef → (store : Store) → (old : Port) → History → Type 0
+RingFront t a f store old es = (store' : Store) × (new : Port) × (entered : Bool) × RingTells t a f store store' old new entered es
 
 -- what a run is given
 abbrev pub scenario_of : Plan → Scenario
 scenario_of plan = record { net = plan.net.now; streams = plan.streams.now; script = plan.script.now }
+
+module _ (w : Scenario) (t a : ℕ) (f : FrameRef) (store store' : Store) (old : List Lane) where
+  -- the frame came to its ring
+  pub record ComePart (new : List Lane) (entered : Bool) (es : History) : Type 0 where
+    pub comes : ComesPart w t (comes_to a f ∷ []) old new (drops_of entered) es
+    pub keeps : KeepsCome w store store' old new f
+
+-- ---- the entries of a tick
 
 module _ (w : Scenario) (t : ℕ) (old : Progress) where
   -- the next so many frames of the script are those of the tick, and come to their rings
@@ -120,6 +140,7 @@ module _ (w : Scenario) (t : ℕ) (old : Progress) where
     pub lost : ℕ
     pub dropped : new.dropped ≡ old.dropped + lost
     pub part : ComesPart w t (sent_frames w old.sent count) old.lanes.items new.lanes.items lost es
+    pub relay : new.relay ≡ old.relay
 
   -- what was told is of the first ones of the tick
   abbrev pub SendsFront : History → Type 0
@@ -132,11 +153,12 @@ module _ (w : Scenario) (t : ℕ) (old : Progress) where
     pub deliveries : length (Deliveries es) ≡ 0
     pub drops : new.dropped ≡ old.dropped + count_by is_dropped es
     pub delivered : new.delivered ≡ old.delivered
-    pub legal : (h : History) → LegalAt w t (1 + 3 * length w.net.arcs) h → LanesStand w h t old.lanes.items → AreSentBefore w t old.sent
-        → LegalAt w t (2 + 3 * length w.net.arcs) (h ++ es) × LanesStand w (h ++ es) t new.lanes.items × AreSentBefore w (t + 1) new.sent
+    pub legal : (h : History) (calls : List Call) → LegalAt w t (1 + 3 * length w.net.arcs) h → Stands old.relay w.net w.streams calls → LanesStand w h t old.lanes.items (inside w.net w.streams calls) → AreSentBefore w t old.sent
+        → LegalAt w t (2 + 3 * length w.net.arcs) (h ++ es) × AreSentBefore w (t + 1) new.sent
+        × ((calls' : List Call) × Stands new.relay w.net w.streams calls' × LanesStand w (h ++ es) (t + 1) new.lanes.items (inside w.net w.streams calls'))
 
   abbrev pub EntriesFront : History → Type 0
-  EntriesFront es = (h : History) → LegalAt w t (1 + 3 * length w.net.arcs) h → LanesStand w h t old.lanes.items → AreSentBefore w t old.sent → IsFront w (h ++ es)
+  EntriesFront es = (h : History) (calls : List Call) → LegalAt w t (1 + 3 * length w.net.arcs) h → Stands old.relay w.net w.streams calls → LanesStand w h t old.lanes.items (inside w.net w.streams calls) → AreSentBefore w t old.sent → IsFront w (h ++ es)
 
 -- ---- parts of a tick after one another
 

@@ -1,16 +1,19 @@
 -- What becomes of frames that come to rings, one after another.
-use Rattle.std.specs.Prelude.{ℕ, zero, suc, ◌+◌, ◌<◌, ◌≤◌, ◌≡◌, ◌≢◌, ◌==◌, Bool, true, false, if◌then◌else◌, List, [], ◌∷◌, ◌++◌, length, count_by, flat_map, slice_get, Contains, Some}
-use Rattle.std.specs.Option.{option_map_or}
+use Rattle.std.specs.Prelude.{ℕ, zero, suc, ◌+◌, ◌<◌, ◌≤◌, ◌≡◌, ◌≢◌, min, Bool, true, false, List, [], ◌∷◌, ◌++◌, length, map, take, count_by, replicate, Contains}
 use Rattle.std.specs.List.{AllByRecursion as Every}
+use Rattle.pre_rings.specs.declared.slots.FrameRef.{FrameRef}
 use Rattle.pre_trace.specs.Scenario.{Scenario}
 use Rattle.pre_trace.specs.History.{History}
 use Rattle.pre_trace.specs.Selected.{what_is, is_dropped}
 use Rattle.pre_trace.specs.Queries.{Begins, Entries, Deliveries}
-use Rattle.pre_trace.specs.Comings.{Coming, first_arc, hops, below, EntriesOf}
-use Rattle.pre_sim.specs.declared.plans.Frame.{Frame}
-use Rattle.pre_sim.specs.declared.lanes.Passing.{Passing}
+use Rattle.pre_trace.specs.Comings.{Coming, first_arc, hops, EntriesOf}
+use Rattle.pre_bridge.specs.declared.relays.Relay.{Relay}
+use Rattle.pre_bridge.specs.Inside.{Call, Entry, taken, inside}
+use Rattle.pre_bridge.specs.Turns.{dues}
+use Rattle.pre_bridge.specs.Relays.{Stands}
 use Rattle.pre_sim.specs.declared.lanes.Lane.{Lane}
-use Rattle.pre_sim.specs.Stands.{IsFrameOf, LanesStand}
+use Rattle.pre_sim.specs.Stands.{LanesStand}
+use Rattle.pre_sim.specs.Keeps.{Store, Keeps}
 
 -- All mPackets began at earlier ticks, and all that came to a ring came by this one.
 pub record BeforeEntries (t : ℕ) (h : History) : Type 0 where
@@ -36,18 +39,13 @@ drops_of false = 1
 
 -- ---- which frames come
 
--- what is inside the bridge at the end of an arc
-abbrev pub inside_at : List Lane → ℕ → List Passing
-inside_at lanes a = option_map_or (λ l. l.inside.items) (slice_get lanes a) []
+-- a frame that leaves a bridge comes to the ring of its next arc
+abbrev pub coming_of : Entry → Coming
+coming_of e = record { arc = e.next.0; frame = e.frame.frame.0 }
 
--- the oldest one, where its latency is over at the tick
-abbrev pub due_at : ℕ → List Passing → List Coming
-due_at t [] = []
-due_at t (p ∷ ps) = if p.due.0 == t then record { arc = p.next.0; frame = p.frame.number.0 } ∷ [] else []
-
--- those of the first n arcs
-abbrev pub dues : ℕ → List Lane → ℕ → List Coming
-dues t lanes n = flat_map (λ a. due_at t (inside_at lanes a)) (below n)
+-- what the bridges hand on at the tick, at most one frame for each arc
+abbrev pub handed_on : Scenario → ℕ → List Entry → List Coming
+handed_on w t entries = map coming_of (take (length w.net.arcs) (dues t (length w.net.arcs) entries))
 
 -- frame k at the first arc of its route
 abbrev pub sent_frame : Scenario → ℕ → Coming
@@ -63,51 +61,42 @@ sent_frames w k (suc n) = sent_frames w k n ++ sent_frame w (k + n) ∷ []
 module _ (w : Scenario) (t : ℕ) (cs : List Coming) (old : List Lane) where
   -- these events are what the rules say of them, and the lanes stand behind them
   abbrev pub Come : List Lane → History → Type 0
-  Come new es = (h : History) → AreNew w h cs → LanesStand w h t old → BeforeEntries t h
-      → (es ≡ EntriesOf w t h cs) × LanesStand w (h ++ es) t new × BeforeEntries t (h ++ es)
+  Come new es = (h : History) (entries : List Entry) → AreNew w h cs → LanesStand w h t old entries → BeforeEntries t h
+      → (es ≡ EntriesOf w t h cs) × LanesStand w (h ++ es) t new entries × BeforeEntries t (h ++ es)
 
   -- they came to their rings, and what became of each was told
   pub record ComesPart (new : List Lane) (lost : ℕ) (es : History) : Type 0 where
     pub deliveries : length (Deliveries es) ≡ 0
     pub drops : lost ≡ count_by is_dropped es
-    pub kept : (a : ℕ) → inside_at new a ≡ inside_at old a
     pub come : Come new es
 
   -- what was told is of the first ones
   abbrev pub ComesFront : History → Type 0
-  ComesFront es = (h : History) → AreNew w h cs → LanesStand w h t old → BeforeEntries t h
+  ComesFront es = (h : History) (entries : List Entry) → AreNew w h cs → LanesStand w h t old entries → BeforeEntries t h
       → (front : List Coming) × (rest : List Coming) × (cs ≡ front ++ rest) × (es ≡ EntriesOf w t h front)
 
 -- the frame comes to the arc
-abbrev pub comes_to : ℕ → Frame → Coming
-comes_to a f = record { arc = a; frame = f.number.0 }
+abbrev pub comes_to : ℕ → FrameRef → Coming
+comes_to a f = record { arc = a; frame = f.frame.0 }
 
-module _ (w : Scenario) (t a : ℕ) (f : Frame) (old : List Lane) where
-  -- it came to its ring, where it is one of the script's
-  pub record ComePart (new : List Lane) (entered : Bool) (es : History) : Type 0 where
+-- a frame that was on its way has come to a ring, or its slot is in again
+abbrev pub KeepsCome : Scenario → (store store' : Store) → (old new : List Lane) → FrameRef → Type 0
+KeepsCome w store store' old new f = (entries : List Entry) → Keeps w store old entries (f ∷ []) → Keeps w store' new entries []
+
+-- a frame came, and was kept or dropped
+abbrev pub KeepsSame : Scenario → (store store' : Store) → (old new : List Lane) → Type 0
+KeepsSame w store store' old new = (entries : List Entry) → Keeps w store old entries [] → Keeps w store' new entries []
+
+-- ---- what bridges hand on
+
+-- what came out of the relay came to its rings, and no more is due than may come out
+module _ (w : Scenario) (t : ℕ) (relay : Relay) (old : List Lane) where
+  pub record RelaysPart (relay' : Relay) (new : List Lane) (lost : ℕ) (es : History) : Type 0 where
     pub deliveries : length (Deliveries es) ≡ 0
-    pub drops : drops_of entered ≡ count_by is_dropped es
-    pub kept : (b : ℕ) → inside_at new b ≡ inside_at old b
-    pub come : IsFrameOf w a f → Come w t (comes_to a f ∷ []) old new es
+    pub drops : lost ≡ count_by is_dropped es
+    pub come : (calls : List Call) → Stands relay w.net w.streams calls → ComesPart w t (handed_on w t (inside w.net w.streams calls)) old new lost es
+    pub left : (calls : List Call) → Stands relay w.net w.streams calls
+        → (n : ℕ) × Stands relay' w.net w.streams (calls ++ replicate n (taken t)) × (min (length w.net.arcs) (length (dues t (length w.net.arcs) (inside w.net w.streams calls))) ≤ n)
 
-  abbrev pub ComeFront : History → Type 0
-  ComeFront es = IsFrameOf w a f → ComesFront w t (comes_to a f ∷ []) old es
-
--- ---- the end of a tick
-
--- without the oldest one, where its latency is over at the tick
-abbrev pub without_due : ℕ → List Passing → List Passing
-without_due t [] = []
-without_due t (p ∷ ps) = if p.due.0 == t then ps else p ∷ ps
-
--- the lane is as before, but for what the bridge handed on at the tick
-pub record IsSettled (t : ℕ) (old new : Lane) : Type 0 where
-  pub waiting : new.waiting ≡ old.waiting
-  pub sending : new.sending ≡ old.sending
-  pub free : new.free_from ≡ old.free_from
-  pub begun : new.begun ≡ old.begun
-  pub flying : new.flying ≡ old.flying
-  pub inside : new.inside.items ≡ without_due t old.inside.items
-
-abbrev pub AreSettled : ℕ → (old new : List Lane) → Type 0
-AreSettled t old new = (a : ℕ) (lane : Lane) → slice_get new a ≡ Some lane → (before : Lane) × (slice_get old a ≡ Some before) × IsSettled t before lane
+  abbrev pub RelaysFront : History → Type 0
+  RelaysFront es = (calls : List Call) → Stands relay w.net w.streams calls → ComesFront w t (handed_on w t (inside w.net w.streams calls)) old es

@@ -2,13 +2,13 @@
 #![tactic(auto)]
 
 mod arcs;
+mod frames;
 mod halts;
 mod lanes;
 mod laws;
 mod phases;
 mod plans;
 mod runs;
-mod sends;
 mod telling;
 mod ticks;
 

@@ -6,6 +6,8 @@ use crate::lanes::idle_lanes;
 use crate::plans::Plan;
 use crate::ticks::{Progress, advance};
 use pre_base::{ArcId, Tick};
+use pre_bridge::Relay;
+use pre_rings::FrameStore;
 use pre_script::Script;
 use pre_streams::Streams;
 use pre_topo::Network;
@@ -41,12 +43,13 @@ impl<'a> Model for Sim<'a> {
     ghost use Rattle.std.specs.Prelude.{◌≡◌, ◌≤◌, length, vec_len, true};
     ghost use Rattle.pre_sim.specs.Views.{SimView};
     ghost use Rattle.pre_sim.specs.Reach.{CanRun, IsWithin};
+    ghost use Rattle.pre_sim.specs.Keeps.{IsKept};
 
     ghost Value = { SimView };
 
     ghost view = { λ s. record { run = record { net = s.plan.net.now; streams = s.plan.streams.now; script = s.plan.script.now }; progress = s.progress; next = s.next.0; going = s.going } };
 
-    ghost invariant = { λ s. CanRun s.plan.net.now s.plan.streams.now s.plan.script.now × (vec_len s.progress.lanes ≡ length s.plan.net.now.arcs) × (s.next.0 ≤ s.plan.script.now.until.0) × (s.going ≡ true → IsWithin s.next.0 s.progress) };
+    ghost invariant = { λ s. CanRun s.plan.net.now s.plan.streams.now s.plan.script.now × (vec_len s.progress.lanes ≡ length s.plan.net.now.arcs) × (s.next.0 ≤ s.plan.script.now.until.0) × (s.going ≡ true → IsWithin s.next.0 s.progress × IsKept (record { net = s.plan.net.now; streams = s.plan.streams.now; script = s.plan.script.now }) s.next.0 s.progress) };
 }
 
 impl<'a> Sim<'a> {
@@ -65,15 +68,17 @@ impl<'a> Sim<'a> {
         ensures { IfOk result (λ s. (s.run ≡ record { net = net.now; streams = streams.now; script = script.now }) × (s.next ≡ 0) × (s.going ≡ true) × HasTold s []) }
     {
         direct_arrivals();
-        let lanes = idle_lanes(alloc, net.arcs.len())?;
         Ok(Sim {
             plan: Plan {
+                alloc,
                 net,
                 streams,
                 script,
             },
             progress: Progress {
-                lanes,
+                lanes: idle_lanes(alloc, net.arcs.as_slice())?,
+                relay: Relay::make(alloc, net, streams)?,
+                store: FrameStore::make(alloc, net.slots() as u16)?,
                 sent: 0,
                 delivered: 0,
                 dropped: 0,

@@ -1,14 +1,17 @@
-ghost use Rattle.std.specs.Prelude.{◌≡◌, ◌↔◌, ◌≤◌, ◌+◌, ◌*◌, ◌^◌, IfOk, IsTrue, length, vec_len, count_by, nat_le};
+ghost use Rattle.std.specs.Prelude.{◌≡◌, ◌↔◌, ◌≤◌, ◌+◌, ◌*◌, ◌^◌, IfOk, OnOk, IsTrue, length, vec_len, count_by, nat_le};
 ghost use Rattle.pre_sim.specs.Telling.{HasCause};
 ghost use Rattle.pre_sim.specs.Parts.{TellsPart, TellsOne, SendsPart, SendsFront, EntriesPart, EntriesFront, Carries, CarriesFront, TickPart, TickFront, AdvancePart, AdvanceFront, closing_event, scenario_of};
 ghost use Rattle.pre_sim.specs.Reach.{CanRun, IsWithin};
+ghost use Rattle.pre_sim.specs.Keeps.{IsKept};
 
 use crate::halts::Halt;
 use crate::lanes::Lane;
-use crate::phases::{arrivals, ends, relays, send, settle, starts};
+use crate::phases::{arrivals, ends, relays, send, starts};
 use crate::plans::Plan;
 use crate::telling::tell;
 use pre_base::Tick;
+use pre_bridge::{Relay, takes_law};
+use pre_rings::FrameStore;
 use pre_script::Script;
 use pre_trace::{
     Event, Watcher, deliveries_are_what_was_sent, direct_arrivals, events_before_their_end,
@@ -16,10 +19,14 @@ use pre_trace::{
 };
 
 /// How far a run is.
-#[derive(Debug, Drop)]
+#[derive(Drop)]
 pub(crate) struct Progress {
     /// What is on each arc or waits for it.
     pub lanes: Vec<Lane>,
+    /// The frames inside the bridges.
+    pub relay: Relay,
+    /// The octets of all frames that wait, are being sent or are inside a bridge.
+    pub store: FrameStore,
     /// How many sends are over.
     pub sent: usize,
     pub delivered: u64,
@@ -37,8 +44,10 @@ fn sends<W: Watcher>(
     requires now { now.0 ≤ 4 * 10 ^ 12 }
     requires lanes { vec_len progress.old.lanes ≡ length plan.now.net.now.arcs }
     requires counts { IsWithin (now.0 + 1) progress.old }
+    requires kept { IsKept (scenario_of plan.now) now.0 progress.old }
     ensures lanes { vec_len progress.new.lanes ≡ length plan.now.net.now.arcs }
     ensures counts { IsWithin (now.0 + 1) progress.new }
+    ensures kept { OnOk result (IsKept (scenario_of plan.now) now.0 progress.new) }
     ensures part { TellsPart plan.now.net.now result (W.took watcher.old) (W.took watcher.new) (W.torn watcher.new) (λ x es. SendsPart (scenario_of plan.now) now.0 progress.old progress.new es) (SendsFront (scenario_of plan.now) now.0 progress.old) }
     ensures cause { HasCause (W.faults watcher.old) (W.faults watcher.new) result }
     ensures same { W.same watcher.old watcher.new }
@@ -47,7 +56,14 @@ fn sends<W: Watcher>(
     while progress.sent < lines.len() && lines[progress.sent].send.tick == now {
         let number = progress.sent;
         progress.sent = number + 1;
-        let entered = send(plan, now, number, &mut progress.lanes, watcher)?;
+        let entered = send(
+            plan,
+            now,
+            number,
+            &mut progress.lanes,
+            &mut progress.store,
+            watcher,
+        )?;
         progress.dropped += u64::from(!entered);
     }
     Ok(())
@@ -64,8 +80,10 @@ fn entries<W: Watcher>(
     requires now { now.0 ≤ 4 * 10 ^ 12 }
     requires lanes { vec_len progress.old.lanes ≡ length plan.now.net.now.arcs }
     requires counts { IsWithin now.0 progress.old }
+    requires kept { IsKept (scenario_of plan.now) now.0 progress.old }
     ensures lanes { vec_len progress.new.lanes ≡ length plan.now.net.now.arcs }
     ensures counts { IsWithin (now.0 + 1) progress.new }
+    ensures kept { OnOk result (IsKept (scenario_of plan.now) now.0 progress.new) }
     ensures part { TellsPart plan.now.net.now result (W.took watcher.old) (W.took watcher.new) (W.torn watcher.new) (λ x es. EntriesPart (scenario_of plan.now) now.0 progress.old progress.new es) (EntriesFront (scenario_of plan.now) now.0 progress.old) }
     ensures cause { HasCause (W.faults watcher.old) (W.faults watcher.new) result }
     ensures same { W.same watcher.old watcher.new }
@@ -73,7 +91,15 @@ fn entries<W: Watcher>(
     mpackets_in_order();
     events_before_their_end();
     frames_come_once();
-    let lost = relays(plan, now, &mut progress.lanes, watcher)?;
+    takes_law();
+    let lost = relays(
+        plan,
+        now,
+        &mut progress.lanes,
+        &mut progress.relay,
+        &mut progress.store,
+        watcher,
+    )?;
     progress.dropped += lost;
     sends(plan, now, progress, watcher)
 }
@@ -88,15 +114,23 @@ fn land<W: Watcher>(
     requires can { CanRun plan.now.net.now plan.now.streams.now plan.now.script.now }
     requires now { now.0 ≤ 4 * 10 ^ 12 }
     requires lanes { vec_len progress.old.lanes ≡ length plan.now.net.now.arcs }
+    requires kept { IsKept (scenario_of plan.now) now.0 progress.old }
     ensures lanes { vec_len progress.new.lanes ≡ length plan.now.net.now.arcs }
-    ensures kept { (progress.new.sent ≡ progress.old.sent) × (progress.new.dropped ≡ progress.old.dropped) }
+    ensures counts { (progress.new.sent ≡ progress.old.sent) × (progress.new.dropped ≡ progress.old.dropped) }
+    ensures kept { OnOk result (IsKept (scenario_of plan.now) now.0 progress.new) }
     ensures part { TellsPart plan.now.net.now result (W.took watcher.old) (W.took watcher.new) (W.torn watcher.new) (λ x es. Carries (scenario_of plan.now) now.0 0 now.0 now.0 (1 + 3 * length plan.now.net.now.arcs) now.0 progress.old progress.new es) (CarriesFront (scenario_of plan.now) now.0 0 now.0 progress.old) }
     ensures cause { HasCause (W.faults watcher.old) (W.faults watcher.new) result }
     ensures same { W.same watcher.old watcher.new }
 {
     deliveries_are_what_was_sent();
-    ends(plan.net, now, &mut progress.lanes, watcher)?;
-    let delivered = arrivals(plan.net, now, &mut progress.lanes, watcher)?;
+    let Progress {
+        lanes,
+        relay,
+        store,
+        ..
+    } = progress;
+    ends(plan, now, lanes, store, watcher)?;
+    let delivered = arrivals(plan, now, lanes, relay, store, watcher)?;
     progress.delivered = progress.delivered.saturating_add(delivered);
     Ok(())
 }
@@ -112,18 +146,16 @@ fn leave<W: Watcher>(
     requires now { now.0 ≤ 4 * 10 ^ 12 }
     requires lanes { vec_len progress.old.lanes ≡ length plan.now.net.now.arcs }
     requires counts { IsWithin now.0 progress.old }
+    requires kept { IsKept (scenario_of plan.now) now.0 progress.old }
     ensures lanes { vec_len progress.new.lanes ≡ length plan.now.net.now.arcs }
     ensures counts { IsWithin (now.0 + 1) progress.new }
+    ensures kept { OnOk result (IsKept (scenario_of plan.now) now.0 progress.new) }
     ensures part { TellsPart plan.now.net.now result (W.took watcher.old) (W.took watcher.new) (W.torn watcher.new) (λ x es. Carries (scenario_of plan.now) now.0 (1 + 3 * length plan.now.net.now.arcs) now.0 (now.0 + 1) 0 (now.0 + 1) progress.old progress.new es) (CarriesFront (scenario_of plan.now) now.0 (1 + 3 * length plan.now.net.now.arcs) now.0 progress.old) }
     ensures cause { HasCause (W.faults watcher.old) (W.faults watcher.new) result }
     ensures same { W.same watcher.old watcher.new }
 {
-    mpackets_in_order();
-    events_before_their_end();
     entries(plan, now, progress, watcher)?;
-    starts(plan.net, now, &mut progress.lanes, watcher)?;
-    settle(&mut progress.lanes, now);
-    Ok(())
+    starts(plan, now, &mut progress.lanes, watcher)
 }
 
 /// All that happens at a tick.
@@ -137,8 +169,10 @@ fn run_tick<W: Watcher>(
     requires now { now.0 ≤ 4 * 10 ^ 12 }
     requires lanes { vec_len progress.old.lanes ≡ length plan.now.net.now.arcs }
     requires counts { IsWithin now.0 progress.old }
+    requires kept { IsKept (scenario_of plan.now) now.0 progress.old }
     ensures lanes { vec_len progress.new.lanes ≡ length plan.now.net.now.arcs }
     ensures counts { IsWithin (now.0 + 1) progress.new }
+    ensures kept { OnOk result (IsKept (scenario_of plan.now) now.0 progress.new) }
     ensures part { TellsPart plan.now.net.now result (W.took watcher.old) (W.took watcher.new) (W.torn watcher.new) (λ x es. TickPart (scenario_of plan.now) now.0 progress.old progress.new es) (TickFront (scenario_of plan.now) now.0 progress.old) }
     ensures cause { HasCause (W.faults watcher.old) (W.faults watcher.new) result }
     ensures same { W.same watcher.old watcher.new }
@@ -186,8 +220,10 @@ pub(crate) fn advance<W: Watcher>(
     requires now { now.0 ≤ 4 * 10 ^ 12 }
     requires lanes { vec_len progress.old.lanes ≡ length plan.now.net.now.arcs }
     requires counts { IsWithin now.0 progress.old }
+    requires kept { IsKept (scenario_of plan.now) now.0 progress.old }
     ensures lanes { vec_len progress.new.lanes ≡ length plan.now.net.now.arcs }
     ensures counts { IsWithin (now.0 + 1) progress.new }
+    ensures kept { OnOk result (IsKept (scenario_of plan.now) now.0 progress.new) }
     ensures last { IfOk result (λ last. IsTrue last ↔ (now ≡ plan.now.script.now.until)) }
     ensures part { TellsPart plan.now.net.now result (W.took watcher.old) (W.took watcher.new) (W.torn watcher.new) (λ last es. AdvancePart (scenario_of plan.now) now.0 progress.old progress.new last es) (AdvanceFront (scenario_of plan.now) now.0 progress.old) }
     ensures cause { HasCause (W.faults watcher.old) (W.faults watcher.new) result }

@@ -2,16 +2,13 @@ use Rattle.std.proofs.Common.{sym, ap, subst, List, ℕ}
 use Rattle.pre_trace.specs.Scenario.{no_arc}
 use Rattle.pre_trace.specs.History.{PlainEvent}
 use Rattle.pre_topo.specs.declared.arcs.Arc.{Arc}
-use Rattle.pre_sim.specs.Spelled.{octets_of}
 use Rattle.pre_sim.specs.Parts.{TellsOne}
 use Rattle.pre_sim.proofs.Lists.{read_at}
-use Rattle.pre_sim.proofs.Ending.{front_octets}
 use Rattle.pre_sim.proofs.arcs.deliver.Goals as goal
 
 pub returns-clause-one : goal.returns-clause-one
 returns-clause-one g c =
     let link = read_at c.args.net.now.arcs c.args.arc.0 c.arc_at-link.result.now no_arc c.arc_at-link.ensures.found in
-    let octets = front_octets c.args.frame.now _ _ c.put_frame-size.result c.put_frame-size.ensures.size c.put_frame-size.ensures.octets in
     let Tells = λ (node : ℕ) (octets : List ℕ). TellsOne c.args.net.now c.tell.result (g.W.Watcher.took c.args.watcher.now) (g.W.Watcher.took c.tell.new.watcher) (g.W.Watcher.torn c.tell.new.watcher)
-    (PlainEvent.deliver (record { tick = c.args.now.0; node = node; frame = c.args.frame.now.number.0; octets = octets })) in
-    subst (λ (node : ℕ). Tells node (octets_of c.args.frame.now)) (ap (λ (l : Arc). l.to.0) (sym link)) (subst (Tells c.arc_at-link.result.now.to.0) octets c.tell.ensures.one)
+    (PlainEvent.deliver (record { tick = c.args.now.0; node = node; frame = c.args.flight.now.frame.0; octets = octets })) in
+    subst (λ (node : ℕ). Tells node c.args.flight.now.octets.items) (ap (λ (l : Arc). l.to.0) (sym link)) (subst (Tells c.arc_at-link.result.now.to.0) c.as_slice.ensures.value c.tell.ensures.one)

@@ -1,8 +1,37 @@
-use Rattle.std.proofs.Common.{rules, refl, inr}
-use Rattle.pre_sim.proofs.TellParts.{part_of_one}
+use Rattle.std.proofs.Common.{ℕ, zero, suc, ◌≡◌, List, [], ◌∷◌, refl, sym, ◌∙◌, ap, subst, rules, Some, None}
+use Rattle.std.specs.Prelude.{slice_get, set}
+use Rattle.pre_rings.specs.Stores.{IsOut}
+use Rattle.pre_rings.specs.declared.slots.FrameRef.{FrameRef}
+use Rattle.pre_sim.specs.Keeps.{Store}
+use Rattle.pre_sim.specs.Arriving.{IsStored}
 use Rattle.pre_sim.proofs.arcs.keep_inside.Goals as goal
 
-pub returns-clause-part : goal.returns-clause-part
-returns-clause-part g c =
-    part_of_one c.args.net.now c.tell_arrival.result (g.W.Watcher.took c.args.watcher.now) (g.W.Watcher.took c.tell_arrival.new.watcher) (g.W.Watcher.torn c.tell_arrival.new.watcher) _ _ _
-    c.tell_arrival.ensures.one (λ x. (refl, search rules)) (inr refl)
+-- the slot is out
+set_out : (store : Store) (slot : ℕ) (octets : List ℕ) → slice_get store slot ≡ Some None → IsOut (set store slot (Some octets)) slot
+set_out [] slot octets at = absurd (cc at)
+set_out (x ∷ store) zero octets at = refl
+set_out (x ∷ store) (suc slot) octets at = set_out store slot octets at
+
+is_out : (store store' : Store) (slot slot' : ℕ) (octets : List ℕ) → IsStored store octets slot store' → slot' ≡ slot → IsOut store' slot'
+is_out store store' slot slot' octets is same = subst (λ s. IsOut s slot') (sym is.1) (subst (IsOut (set store slot (Some octets))) (sym same) (set_out store slot octets is.0))
+
+-- and once it is in again the store is as before
+set_back : (store : Store) (slot : ℕ) (octets : List ℕ) → slice_get store slot ≡ Some None → set (set store slot (Some octets)) slot None ≡ store
+set_back [] slot octets at = absurd (cc at)
+set_back (x ∷ store) zero octets at = let same : None ≡ x = cc at in ap (λ y. y ∷ store) same
+set_back (x ∷ store) (suc slot) octets at = ap (λ s. x ∷ s) (set_back store slot octets at)
+
+is_back : (store store' store'' : Store) (slot slot' : ℕ) (octets : List ℕ) → IsStored store octets slot store' → slot' ≡ slot → store'' ≡ set store' slot' None → store'' ≡ store
+is_back store store' store'' slot slot' octets is same back =
+    back ∙ (ap (λ n. set store' n None) same ∙ (ap (λ s. set s slot None) is.1 ∙ set_back store slot octets is.0))
+
+pub give_back-requires : goal.give_back-requires
+give_back-requires c =
+    is_out c.args.store.now c.stored.new.store c.in_ok-stored.field-0 c.in-Err.frame.slot c.args.flight.now.octets.items (search rules) (ap (λ (f : FrameRef). f.slot) c.in-Err.ensures.back.0)
+
+pub returns-in-Err-clause-inside : goal.returns-in-Err-clause-inside
+returns-in-Err-clause-inside c = (
+  is_back c.args.store.now c.stored.new.store c.give_back.new.self c.in_ok-stored.field-0 c.in-Err.frame.slot c.args.flight.now.octets.items (search rules) (ap (λ (f : FrameRef). f.slot) c.in-Err.ensures.back.0) c.give_back.ensures,
+  c.in-Err.ensures.back.1,
+  λ calls stands. (c.in-Err.ensures.refused c.args.plan.now.net.now c.args.plan.now.streams.now calls stands).0 refl,
+)

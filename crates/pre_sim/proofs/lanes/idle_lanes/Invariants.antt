@@ -1,10 +1,12 @@
-use Rattle.std.proofs.Common.{◌≡◌, vec_len}
-use Rattle.std.specs.List.{AllByRecursion as Every}
-use Rattle.pre_sim.specs.Stands.{IsIdle}
+use Rattle.std.proofs.Common.{◌≡◌, ℕ, Some, vec_len}
+use Rattle.std.specs.Prelude.{slice_get, slice_index_or}
+use Rattle.pre_trace.specs.Scenario.{no_arc}
+use Rattle.pre_sim.specs.declared.lanes.Lane.{Lane}
+use Rattle.pre_sim.specs.Lanes.{IsIdle}
 use Rattle.pre_sim.proofs.lanes.idle_lanes.Given as goal
 
-abbrev pub invariant-loop-made : goal.invariant-loop-made
-invariant-loop-made l = record {
-  long : vec_len l.lanes ≡ l._made;
-  idle : Every IsIdle l.lanes.items;
+abbrev pub invariant-loop-arc : goal.invariant-loop-arc
+invariant-loop-arc l = record {
+  long : vec_len l.lanes ≡ l.arc-index;
+  each : (a : ℕ) (lane : Lane) → slice_get l.lanes.items a ≡ Some lane → IsIdle (slice_index_or l.arcs a no_arc).rings lane;
 }

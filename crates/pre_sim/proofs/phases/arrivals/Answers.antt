@@ -1,22 +1,35 @@
 use Rattle.std.proofs.Common.{rules, ap, ◌∙◌, ◌≡◌, ◌+◌, ◌++◌, Some, sym, subst, length, []}
 use Rattle.std.specs.Prelude.{slice_get, slice_index_or, set}
-use Rattle.pre_sim.specs.Parts.{LanePart, LaneFront, LanesPart, count_of}
+use Rattle.pre_trace.specs.Scenario.{Scenario}
+use Rattle.pre_sim.specs.Parts.{ArrivalPart, ArrivalsPart, LaneFront, count_of, scenario_of}
+use Rattle.pre_sim.specs.Told.{tells_nothing, tells_then}
 use Rattle.pre_sim.proofs.Lists.{found_at}
 use Rattle.pre_sim.proofs.TellParts.{byte_of, then_front}
-use Rattle.pre_sim.specs.Told.{tells_nothing, tells_then}
-use Rattle.pre_sim.proofs.Others.{lane_more, front_more, lanes_begin}
+use Rattle.pre_sim.proofs.AllArrivals.{arrivals_begin, arrival_more, arrival_front_more, lane_kept}
 use Rattle.pre_sim.proofs.phases.arrivals.Goals as goal
 
 pub loop-arc-init : goal.loop-arc-init
 loop-arc-init g c = record {
-  part = ([], tells_nothing c.args.net.now (g.W.Watcher.took c.args.watcher.now), lanes_begin c.args.net.now c.args.now.0 (1 + length c.args.net.now.arcs) c.args.lanes.now);
+  part = ([], tells_nothing c.args.plan.now.net.now (g.W.Watcher.took c.args.watcher.now), arrivals_begin (scenario_of c.args.plan.now) c.args.now.0 (1 + length c.args.plan.now.net.now.arcs) c.args.store.now c.args.relay.now c.args.lanes.now);
   few = search rules;
+  latest = search rules;
   later = search rules;
   same = search rules;
 }
 
+pub arrive_on-requires-clause-keeps : goal.arrive_on-requires-clause-keeps
+arrive_on-requires-clause-keeps g c =
+    let w : Scenario = scenario_of c.args.plan.now in
+    let before = c.loop-arc.invariant.part in
+    let lane = slice_index_or c.loop-arc.lanes c.loop-arc.arc c.index-lanes-arc.result in
+    let found : slice_get c.loop-arc.lanes c.loop-arc.arc ≡ Some c.index-lanes-arc.result = found_at c.loop-arc.lanes c.loop-arc.arc c.index-lanes-arc.result (search rules) (sym c.index-lanes-arc.is) in
+    let here : slice_get c.loop-arc.lanes c.loop-arc.arc ≡ Some lane = found ∙ ap Some c.index-lanes-arc.is in
+    lane_kept w c.args.now.0 (1 + length c.args.plan.now.net.now.arcs) c.loop-arc.arc c.loop-arc.delivered 0 c.args.store.now c.loop-arc.store c.loop-arc.store c.args.relay.now c.loop-arc.relay c.loop-arc.relay
+    c.args.lanes.now c.loop-arc.lanes lane lane here before.0 [] before.2 c.requires.keeps.0 c.requires.keeps.1
+
 pub loop-arc-preserved : goal.loop-arc-preserved
 loop-arc-preserved g c =
+    let w : Scenario = scenario_of c.args.plan.now in
     let before = c.loop-arc.invariant.part in
     let now = c.in_ok-arrived.ensures.part in
     let lane = slice_index_or c.loop-arc.lanes c.loop-arc.arc c.index-lanes-arc.result in
@@ -25,29 +38,29 @@ loop-arc-preserved g c =
     record {
       part = (
         before.0 ++ now.0,
-        tells_then c.args.net.now (g.W.Watcher.took c.args.watcher.now) (g.W.Watcher.took c.loop-arc.watcher) (g.W.Watcher.took c.arrive_on.new.watcher) before.0 now.0 before.1 now.1,
-        subst (λ d. LanesPart c.args.net.now c.args.now.0 (1 + length c.args.net.now.arcs) (c.loop-arc.arc + 1) (c.loop-arc.delivered + d) c.args.lanes.now (set c.loop-arc.lanes c.loop-arc.arc c.arrive_on.new.lane) (before.0 ++ now.0)) (sym (c.from-delivered.ensures ∙ byte_of c.in_ok-arrived.arrived))
-            (lane_more c.args.net.now c.args.now.0 (1 + length c.args.net.now.arcs) c.loop-arc.arc c.loop-arc.delivered (count_of c.in_ok-arrived.arrived) c.args.lanes.now c.loop-arc.lanes lane c.arrive_on.new.lane here before.0 now.0 before.2 now.2),
+        tells_then c.args.plan.now.net.now (g.W.Watcher.took c.args.watcher.now) (g.W.Watcher.took c.loop-arc.watcher) (g.W.Watcher.took c.arrive_on.new.watcher) before.0 now.0 before.1 now.1,
+        subst (λ d. ArrivalsPart w c.args.now.0 (1 + length c.args.plan.now.net.now.arcs) (c.loop-arc.arc + 1) (c.loop-arc.delivered + d) c.args.store.now c.arrive_on.new.store c.args.relay.now c.arrive_on.new.relay c.args.lanes.now (set c.loop-arc.lanes c.loop-arc.arc c.arrive_on.new.lane) (before.0 ++ now.0))
+            (sym (c.from-delivered.ensures ∙ byte_of c.in_ok-arrived.arrived))
+            (arrival_more w c.args.now.0 (1 + length c.args.plan.now.net.now.arcs) c.loop-arc.arc c.loop-arc.delivered (count_of c.in_ok-arrived.arrived) c.args.store.now c.loop-arc.store c.arrive_on.new.store
+            c.args.relay.now c.loop-arc.relay c.arrive_on.new.relay c.args.lanes.now c.loop-arc.lanes lane c.arrive_on.new.lane here before.0 now.0 before.2 now.2),
       );
       few = search rules;
+      latest = search rules;
       later = search rules;
       same = search rules;
     }
 
 pub returns-in_err-arrived-clause-part : goal.returns-in_err-arrived-clause-part
 returns-in_err-arrived-clause-part g c =
+    let w : Scenario = scenario_of c.args.plan.now in
     let before = c.loop-arc.invariant.part in
     let lane = slice_index_or c.loop-arc.lanes c.loop-arc.arc c.index-lanes-arc.result in
     let found : slice_get c.loop-arc.lanes c.loop-arc.arc ≡ Some c.index-lanes-arc.result = found_at c.loop-arc.lanes c.loop-arc.arc c.index-lanes-arc.result (search rules) (sym c.index-lanes-arc.is) in
     let here : slice_get c.loop-arc.lanes c.loop-arc.arc ≡ Some lane = found ∙ ap Some c.index-lanes-arc.is in
-    then_front c.args.net.now c.arrive_on.result c.from_residual.result (g.W.Watcher.took c.args.watcher.now) (g.W.Watcher.took c.loop-arc.watcher) (g.W.Watcher.took c.arrive_on.new.watcher) (g.W.Watcher.torn c.arrive_on.new.watcher) before.0
-    (λ x es. LanePart c.args.net.now c.args.now.0 (1 + length c.args.net.now.arcs + c.loop-arc.arc) c.loop-arc.arc (count_of x) lane c.arrive_on.new.lane es) (LaneFront c.args.net.now c.args.now.0 (1 + length c.args.net.now.arcs + c.loop-arc.arc) c.loop-arc.arc lane) _ _
+    then_front c.args.plan.now.net.now c.arrive_on.result c.from_residual.result (g.W.Watcher.took c.args.watcher.now) (g.W.Watcher.took c.loop-arc.watcher) (g.W.Watcher.took c.arrive_on.new.watcher) (g.W.Watcher.torn c.arrive_on.new.watcher) before.0
+    (λ x es. ArrivalPart w c.args.now.0 (1 + length c.args.plan.now.net.now.arcs + c.loop-arc.arc) c.loop-arc.arc (count_of x) c.loop-arc.store c.arrive_on.new.store c.loop-arc.relay c.arrive_on.new.relay lane c.arrive_on.new.lane es)
+    (LaneFront w c.args.now.0 (1 + length c.args.plan.now.net.now.arcs + c.loop-arc.arc) c.loop-arc.arc c.args.now.0 lane) _ _
     before.1 c.arrive_on.ensures.part
-    (λ fs front. front_more c.args.net.now c.args.now.0 (1 + length c.args.net.now.arcs) c.loop-arc.arc c.loop-arc.delivered 0 c.args.lanes.now c.loop-arc.lanes lane c.arrive_on.new.lane here before.0 fs before.2 front)
+    (λ fs front. arrival_front_more w c.args.now.0 (1 + length c.args.plan.now.net.now.arcs) c.loop-arc.arc c.loop-arc.delivered 0 c.args.store.now c.loop-arc.store c.loop-arc.store c.args.relay.now c.loop-arc.relay c.loop-arc.relay
+    c.args.lanes.now c.loop-arc.lanes lane c.arrive_on.new.lane here before.0 fs before.2 front)
     c.in_err-arrived.field-0.0 c.in_err-arrived.was (search rules)
-
-pub returns-clause-part : goal.returns-clause-part
-returns-clause-part g c =
-    let part = c.loop-arc.invariant.part in
-    let done : c.loop-arc.arc ≡ length c.args.net.now.arcs = search rules in
-    (part.0, part.1, subst (λ n. LanesPart c.args.net.now c.args.now.0 (1 + length c.args.net.now.arcs) n c.loop-arc.delivered c.args.lanes.now c.loop-arc.lanes part.0) done part.2)

@@ -1,21 +1,33 @@
 use Rattle.std.proofs.Common.{rules, ap, ◌∙◌, ◌≡◌, ◌+◌, ◌*◌, ◌++◌, Some, sym, subst, length, []}
 use Rattle.std.specs.Prelude.{slice_get, slice_index_or}
-use Rattle.pre_sim.specs.Parts.{LanePart, LaneFront, LanesPart}
-use Rattle.pre_sim.proofs.Lists.{found_at}
-use Rattle.pre_sim.proofs.TellParts.{then_front}
+use Rattle.pre_trace.specs.Scenario.{Scenario}
+use Rattle.pre_sim.specs.Keeps.{Store}
+use Rattle.pre_sim.specs.Parts.{LanePart, LaneFront, LanesPart, scenario_of}
 use Rattle.pre_sim.specs.Told.{tells_nothing, tells_then}
+use Rattle.pre_sim.proofs.Lists.{found_at}
 use Rattle.pre_sim.proofs.Others.{lane_more, front_more, lanes_begin}
+use Rattle.pre_sim.proofs.TellParts.{then_front}
 use Rattle.pre_sim.proofs.phases.starts.Goals as goal
 
 pub loop-arc-init : goal.loop-arc-init
 loop-arc-init g c = record {
-  part = ([], tells_nothing c.args.net.now (g.W.Watcher.took c.args.watcher.now), lanes_begin c.args.net.now c.args.now.0 (2 + 3 * length c.args.net.now.arcs) c.args.lanes.now);
+  part = ([], tells_nothing c.args.plan.now.net.now (g.W.Watcher.took c.args.watcher.now), (λ (store : Store). lanes_begin (scenario_of c.args.plan.now) c.args.now.0 (2 + 3 * length c.args.plan.now.net.now.arcs) (c.args.now.0 + 1) store c.args.lanes.now));
   later = search rules;
   same = search rules;
 }
 
+pub start_on-requires-clause-keeps : goal.start_on-requires-clause-keeps
+start_on-requires-clause-keeps g c =
+    let before = c.loop-arc.invariant.part in
+    let lane = slice_index_or c.loop-arc.lanes c.loop-arc.arc c.index-lanes-arc.result in
+    let found : slice_get c.loop-arc.lanes c.loop-arc.arc ≡ Some c.index-lanes-arc.result = found_at c.loop-arc.lanes c.loop-arc.arc c.index-lanes-arc.result (search rules) (sym c.index-lanes-arc.is) in
+    let here : slice_get c.loop-arc.lanes c.loop-arc.arc ≡ Some lane = found ∙ ap Some c.index-lanes-arc.is in
+    let now = (before.2 c.requires.keeps.0).keeps c.requires.keeps.1 c.requires.keeps.2 in
+    (c.requires.keeps.0, now.each_lane c.loop-arc.arc lane here)
+
 pub loop-arc-preserved : goal.loop-arc-preserved
 loop-arc-preserved g c =
+    let w : Scenario = scenario_of c.args.plan.now in
     let before = c.loop-arc.invariant.part in
     let now = c.in_ok-start_on.ensures.part in
     let lane = slice_index_or c.loop-arc.lanes c.loop-arc.arc c.index-lanes-arc.result in
@@ -24,8 +36,8 @@ loop-arc-preserved g c =
     record {
       part = (
         before.0 ++ now.0,
-        tells_then c.args.net.now (g.W.Watcher.took c.args.watcher.now) (g.W.Watcher.took c.loop-arc.watcher) (g.W.Watcher.took c.start_on.new.watcher) before.0 now.0 before.1 now.1,
-        lane_more c.args.net.now c.args.now.0 (2 + 3 * length c.args.net.now.arcs) c.loop-arc.arc 0 0 c.args.lanes.now c.loop-arc.lanes lane c.start_on.new.lane here before.0 now.0 before.2 now.2,
+        tells_then c.args.plan.now.net.now (g.W.Watcher.took c.args.watcher.now) (g.W.Watcher.took c.loop-arc.watcher) (g.W.Watcher.took c.start_on.new.watcher) before.0 now.0 before.1 now.1,
+        (λ (store : Store). lane_more w c.args.now.0 (2 + 3 * length c.args.plan.now.net.now.arcs) c.loop-arc.arc 0 0 (c.args.now.0 + 1) store store store c.args.lanes.now c.loop-arc.lanes lane c.start_on.new.lane here [] [] before.0 now.0 (before.2 store) (now.2 store)),
       );
       later = search rules;
       same = search rules;
@@ -33,18 +45,19 @@ loop-arc-preserved g c =
 
 pub returns-in_err-start_on-clause-part : goal.returns-in_err-start_on-clause-part
 returns-in_err-start_on-clause-part g c =
+    let w : Scenario = scenario_of c.args.plan.now in
     let before = c.loop-arc.invariant.part in
     let lane = slice_index_or c.loop-arc.lanes c.loop-arc.arc c.index-lanes-arc.result in
     let found : slice_get c.loop-arc.lanes c.loop-arc.arc ≡ Some c.index-lanes-arc.result = found_at c.loop-arc.lanes c.loop-arc.arc c.index-lanes-arc.result (search rules) (sym c.index-lanes-arc.is) in
     let here : slice_get c.loop-arc.lanes c.loop-arc.arc ≡ Some lane = found ∙ ap Some c.index-lanes-arc.is in
-    then_front c.args.net.now c.start_on.result c.from_residual.result (g.W.Watcher.took c.args.watcher.now) (g.W.Watcher.took c.loop-arc.watcher) (g.W.Watcher.took c.start_on.new.watcher) (g.W.Watcher.torn c.start_on.new.watcher) before.0
-    (λ x es. LanePart c.args.net.now c.args.now.0 (2 + 3 * length c.args.net.now.arcs + c.loop-arc.arc) c.loop-arc.arc 0 lane c.start_on.new.lane es) (LaneFront c.args.net.now c.args.now.0 (2 + 3 * length c.args.net.now.arcs + c.loop-arc.arc) c.loop-arc.arc lane) _ _
+    then_front c.args.plan.now.net.now c.start_on.result c.from_residual.result (g.W.Watcher.took c.args.watcher.now) (g.W.Watcher.took c.loop-arc.watcher) (g.W.Watcher.took c.start_on.new.watcher) (g.W.Watcher.torn c.start_on.new.watcher) before.0
+    (λ x es. (store : Store) → LanePart w c.args.now.0 ((2 + 3 * length c.args.plan.now.net.now.arcs) + c.loop-arc.arc) c.loop-arc.arc 0 (c.args.now.0 + 1) store store lane c.start_on.new.lane [] es) (LaneFront w c.args.now.0 ((2 + 3 * length c.args.plan.now.net.now.arcs) + c.loop-arc.arc) c.loop-arc.arc (c.args.now.0 + 1) lane) _ _
     before.1 c.start_on.ensures.part
-    (λ fs front. front_more c.args.net.now c.args.now.0 (2 + 3 * length c.args.net.now.arcs) c.loop-arc.arc 0 0 c.args.lanes.now c.loop-arc.lanes lane c.start_on.new.lane here before.0 fs before.2 front)
+    (λ fs front. front_more w c.args.now.0 (2 + 3 * length c.args.plan.now.net.now.arcs) c.loop-arc.arc 0 0 (c.args.now.0 + 1) c.requires.keeps.0 c.requires.keeps.0 c.requires.keeps.0 c.args.lanes.now c.loop-arc.lanes lane c.start_on.new.lane here [] [] before.0 fs (before.2 c.requires.keeps.0) front)
     c.in_err-start_on.field-0.0 c.in_err-start_on.was (search rules)
 
 pub returns-clause-part : goal.returns-clause-part
 returns-clause-part g c =
     let part = c.loop-arc.invariant.part in
-    let done : c.loop-arc.arc ≡ length c.args.net.now.arcs = search rules in
-    (part.0, part.1, subst (λ n. LanesPart c.args.net.now c.args.now.0 (2 + 3 * length c.args.net.now.arcs) n 0 c.args.lanes.now c.loop-arc.lanes part.0) done part.2)
+    let done : c.loop-arc.arc ≡ length c.args.plan.now.net.now.arcs = search rules in
+    (part.0, part.1, subst (λ n. (store : Store) → LanesPart (scenario_of c.args.plan.now) c.args.now.0 (2 + 3 * length c.args.plan.now.net.now.arcs) n 0 (c.args.now.0 + 1) store store c.args.lanes.now c.loop-arc.lanes [] part.0) done part.2)

@@ -1,12 +1,13 @@
-use Rattle.std.proofs.Common.{◌≤◌, ◌+◌, ◌*◌, length}
+use Rattle.std.proofs.Common.{◌≤◌, ◌+◌, ◌*◌, length, []}
 use Rattle.pre_trace.specs.History.{History}
 use Rattle.pre_sim.specs.Telling.{TellsAll}
-use Rattle.pre_sim.specs.Parts.{LanesPart}
+use Rattle.pre_sim.specs.Keeps.{Store}
+use Rattle.pre_sim.specs.Parts.{LanesPart, scenario_of}
 use Rattle.pre_sim.proofs.phases.starts.Given as goal
 
 abbrev pub invariant-loop-arc : goal.invariant-loop-arc
 invariant-loop-arc g l = record {
-  part : (es : History) × TellsAll l.net (g.W.Watcher.took l.fn.watcher) (g.W.Watcher.took l.watcher) es × LanesPart l.net l.now.0 (2 + 3 * length l.net.arcs) l.arc 0 l.fn.lanes l.lanes es;
+  part : (es : History) × TellsAll l.plan.net.now (g.W.Watcher.took l.fn.watcher) (g.W.Watcher.took l.watcher) es × ((store : Store) → LanesPart (scenario_of l.plan) l.now.0 (2 + 3 * length l.plan.net.now.arcs) l.arc 0 (l.now.0 + 1) store store l.fn.lanes l.lanes [] es);
   later : g.W.Watcher.faults l.fn.watcher ≤ g.W.Watcher.faults l.watcher;
   same : g.W.Watcher.same l.fn.watcher l.watcher;
 }

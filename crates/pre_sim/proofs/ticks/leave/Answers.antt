@@ -1,11 +1,12 @@
-use Rattle.std.proofs.Common.{rules, refl, sym, subst, ◌∙◌, ◌≡◌, ◌+◌, ◌*◌, ◌++◌, length, List, []}
+use Rattle.std.proofs.Common.{rules, refl, sym, subst, ◌+◌, ◌*◌, length, List, []}
+use Rattle.pre_bridge.specs.Inside.{inside}
 use Rattle.pre_sim.specs.declared.lanes.Lane.{Lane}
-use Rattle.pre_sim.specs.Sends.{AreSettled}
+use Rattle.pre_sim.specs.Keeps.{Keeps}
 use Rattle.pre_sim.specs.Parts.{LanesFront, EntriesFront, scenario_of}
 use Rattle.pre_sim.proofs.Lists.{written_back}
-use Rattle.pre_sim.proofs.TellParts.{then_front}
-use Rattle.pre_sim.specs.Told.{tells_nothing, tells_then}
-use Rattle.pre_sim.proofs.TickParts.{left, left_front, entries_front}
+use Rattle.pre_sim.proofs.TellParts.{then_front, then_part, on_ok}
+use Rattle.pre_sim.specs.Told.{tells_nothing}
+use Rattle.pre_sim.proofs.TickParts.{left, left_front, left_kept, entries_front}
 use Rattle.pre_sim.proofs.ticks.leave.Goals as goal
 
 pub returns-in_err-entries-clause-part : goal.returns-in_err-entries-clause-part
@@ -17,27 +18,28 @@ returns-in_err-entries-clause-part g c =
     (λ es front. entries_front w c.requires.can c.args.now.0 c.args.progress.now es front)
     c.in_err-entries.field-0.0 c.in_err-entries.was (search rules)
 
-pub returns-in_err-starts-clause-part : goal.returns-in_err-starts-clause-part
-returns-in_err-starts-clause-part g c =
+pub starts-requires-clause-keeps : goal.starts-requires-clause-keeps
+starts-requires-clause-keeps g c =
     let w = scenario_of c.args.plan.now in
-    let first = c.in_ok-entries.ensures.part in
-    then_front c.args.plan.now.net.now c.starts.result c.from_residual-in_err-starts.result (g.W.Watcher.took c.args.watcher.now) (g.W.Watcher.took c.entries.new.watcher) (g.W.Watcher.took c.starts.new.watcher) (g.W.Watcher.torn c.starts.new.watcher) first.0
-    _ (LanesFront w.net c.args.now.0 (2 + 3 * length w.net.arcs) c.deref_mut.result.now) _ _
-    first.1 c.starts.ensures.part
-    (λ es front. left_front w c.requires.can c.args.now.0 c.args.progress.now c.entries.new.progress c.deref_mut.result.now [] first.0 es first.2 c.deref_mut.ensures.value front)
-    c.in_err-starts.field-0.0 c.in_err-starts.was (search rules)
+    let kept = c.in_ok-entries.ensures.kept in
+    let entries = inside w.net w.streams kept.calls in
+    (c.entries.new.progress.store, entries, subst (λ (ls : List Lane). Keeps w c.entries.new.progress.store ls entries []) (sym c.deref_mut.ensures.value) kept.keeps)
 
 pub returns-clause-part : goal.returns-clause-part
 returns-clause-part g c =
     let w = scenario_of c.args.plan.now in
     let t = c.args.now.0 in
     let first = c.in_ok-entries.ensures.part in
-    let second = c.in_ok-starts.ensures.part in
-    let many : length c.starts.new.lanes ≡ length w.net.arcs = search rules in
-    let back : c.deref_mut-2.result.now ≡ c.starts.new.lanes = c.deref_mut-2.ensures.value ∙ written_back c.entries.new.progress.lanes.len c.starts.new.lanes _ (search rules) in
-    let settled : AreSettled t c.starts.new.lanes c.settle.new.lanes = subst (λ (ls : List Lane). AreSettled t ls c.settle.new.lanes) back c.settle.ensures in (
-      first.0 ++ second.0,
-      tells_then c.args.plan.now.net.now (g.W.Watcher.took c.args.watcher.now) (g.W.Watcher.took c.entries.new.watcher) (g.W.Watcher.took c.starts.new.watcher) first.0 second.0 first.1 second.1,
-      left w c.requires.can t c.args.progress.now c.entries.new.progress c.deref_mut.result.now c.starts.new.lanes first.0 second.0 first.2 c.deref_mut.ensures.value _ second.2 many
-          (subst (AreSettled t c.starts.new.lanes) (sym (written_back c.entries.new.progress.lanes.len c.settle.new.lanes _ (search rules))) settled) c.mpackets_in_order.ensures.order c.events_before_their_end.ensures refl refl refl,
-    )
+    then_part c.args.plan.now.net.now c.starts.result (g.W.Watcher.took c.args.watcher.now) (g.W.Watcher.took c.entries.new.watcher) (g.W.Watcher.took c.starts.new.watcher) (g.W.Watcher.torn c.starts.new.watcher) first.0
+    _ _ (LanesFront w t (2 + 3 * length w.net.arcs) (t + 1) c.deref_mut.result.now) _
+    first.1 c.starts.ensures.part
+    (λ x es part. left w c.requires.can t c.args.progress.now c.entries.new.progress c.deref_mut.result.now c.starts.new.lanes first.0 es first.2 c.deref_mut.ensures.value _ c.entries.new.progress.store (part c.entries.new.progress.store) (written_back c.entries.new.progress.lanes.len c.starts.new.lanes _ (search rules)) refl refl refl refl)
+    (λ es front. left_front w c.requires.can t c.args.progress.now c.entries.new.progress c.deref_mut.result.now c.starts.new.lanes first.0 es first.2 c.deref_mut.ensures.value front)
+
+pub returns-clause-kept : goal.returns-clause-kept
+returns-clause-kept g c =
+    let w = scenario_of c.args.plan.now in
+    let t = c.args.now.0 in
+    on_ok c.args.plan.now.net.now c.starts.result (g.W.Watcher.took c.entries.new.watcher) (g.W.Watcher.took c.starts.new.watcher) (g.W.Watcher.torn c.starts.new.watcher)
+    _ (LanesFront w t (2 + 3 * length w.net.arcs) (t + 1) c.deref_mut.result.now) _ c.starts.ensures.part
+    (λ x es part. left_kept w c.requires.can t c.entries.new.progress _ c.deref_mut.result.now c.starts.new.lanes es c.deref_mut.ensures.value (part c.entries.new.progress.store) (written_back c.entries.new.progress.lanes.len c.starts.new.lanes _ (search rules)) refl refl c.in_ok-entries.ensures.kept)

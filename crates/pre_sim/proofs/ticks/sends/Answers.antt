@@ -1,13 +1,13 @@
-use Rattle.std.proofs.Common.{rules, arith, ap, sym, ◌∙◌, ◌≡◌, ◌+◌, ◌<◌, ◌≤◌, ◌++◌, ◌∷◌, List, [], length, subst}
+use Rattle.std.proofs.Common.{rules, arith, ap, sym, ◌∙◌, ◌≡◌, ◌+◌, ◌<◌, ◌≤◌, ◌++◌, ◌∷◌, List, [], length, subst, refl}
 use Rattle.pre_script.specs.declared.scripts.SendLine.{SendLine}
 use Rattle.pre_trace.specs.Scenario.{send}
 use Rattle.pre_sim.specs.declared.lanes.Lane.{Lane}
 use Rattle.pre_sim.specs.Parts.{scenario_of}
-use Rattle.pre_sim.specs.Sends.{ComesPart, ComesFront, sent_frame, sent_frames, drops_of}
+use Rattle.pre_sim.specs.Sends.{ComesPart, ComesFront, KeepsSame, sent_frame, sent_frames, drops_of}
 use Rattle.pre_sim.specs.Told.{tells_nothing, tells_then}
 use Rattle.pre_sim.proofs.TellParts.{then_front}
 use Rattle.pre_sim.proofs.EntriesRun.{none_come}
-use Rattle.pre_sim.proofs.EntriesCount.{one_more_send, one_more_front, one_more_now, sends_front, written, more_drops, sums_up, is_now, is_not_now}
+use Rattle.pre_sim.proofs.EntriesCount.{kept_on, one_more_send, one_more_front, one_more_now, sends_front, written, more_drops, sums_up, is_now, is_not_now}
 use Rattle.pre_sim.proofs.ticks.sends.Goals as goal
 
 pub loop-progress-init : goal.loop-progress-init
@@ -18,6 +18,8 @@ loop-progress-init g c = record {
   lanes = search rules;
   counts = search rules;
   delivered = search rules;
+  relay = refl;
+  kept = c.requires.kept;
   later = search rules;
   same = search rules;
 }
@@ -53,6 +55,9 @@ loop-progress-preserved g c =
       lanes = search rules;
       counts = record { sent = omega (arith, here, few); dropped = let was = c.loop-progress.invariant.counts.dropped in omega (arith, was, one) };
       delivered = search rules;
+      relay = search rules;
+      kept = kept_on w t c.loop-progress.progress _ c.send.new.lanes c.loop-progress.invariant.kept refl lanes
+          (subst (λ (ls : List Lane). KeepsSame w c.loop-progress.progress.store c.send.new.store ls c.send.new.lanes) c.deref_mut.ensures.value c.in_ok-entered.ensures.keeps);
       later = search rules;
       same = search rules;
     }
@@ -89,6 +94,7 @@ returns-else-eq-clause-part g c =
         now = c.loop-progress.invariant.this_tick;
         over = λ lt. is_not_now w t c.loop-progress.progress.sent c.as_slice-lines.result.now c.as_slice-lines.ensures c.if-eq.ensures;
         delivered = c.loop-progress.invariant.delivered;
+        relay = c.loop-progress.invariant.relay;
         lost = before.2;
         dropped = before.6;
         part = before.4;
@@ -107,6 +113,7 @@ returns-after-loop-progress-clause-part g c =
         now = c.loop-progress.invariant.this_tick;
         over = λ lt. absurd (omega (arith, lt, c.loop-progress-test.false, ap length c.as_slice-lines.ensures));
         delivered = c.loop-progress.invariant.delivered;
+        relay = c.loop-progress.invariant.relay;
         lost = before.2;
         dropped = before.6;
         part = before.4;

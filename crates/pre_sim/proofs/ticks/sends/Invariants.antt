@@ -3,6 +3,7 @@ use Rattle.pre_trace.specs.Scenario.{send}
 use Rattle.pre_trace.specs.History.{History}
 use Rattle.pre_sim.specs.Telling.{TellsAll}
 use Rattle.pre_sim.specs.Reach.{IsWithin}
+use Rattle.pre_sim.specs.Keeps.{IsKept}
 use Rattle.pre_sim.specs.Parts.{scenario_of}
 use Rattle.pre_sim.specs.Sends.{ComesPart, sent_frames}
 use Rattle.pre_sim.proofs.ticks.sends.Given as goal
@@ -17,6 +18,8 @@ invariant-loop-progress g l = record {
   lanes : vec_len l.progress.lanes ≡ length l.plan.net.now.arcs;
   counts : IsWithin (l.now.0 + 1) l.progress;
   delivered : l.progress.delivered ≡ l.fn.progress.delivered;
+  relay : l.progress.relay ≡ l.fn.progress.relay;
+  kept : IsKept (scenario_of l.plan) l.now.0 l.progress;
   later : g.W.Watcher.faults l.fn.watcher ≤ g.W.Watcher.faults l.watcher;
   same : g.W.Watcher.same l.fn.watcher l.watcher;
 }

@@ -1,0 +1,123 @@
+ghost use Rattle.std.specs.Prelude.{◌≡◌, ◌<◌, ◌≤◌, ◌++◌, IfOk, IfErr, length, drop, slice_get, Some};
+ghost use Rattle.pre_streams.specs.Rows.{IsRow};
+ghost use Rattle.pre_trace.specs.Scenario.{row, send, FrameOf};
+ghost use Rattle.pre_trace.specs.Comings as comings;
+ghost use Rattle.pre_sim.specs.declared.halts.Halt.TheVariants.{Memory};
+ghost use Rattle.pre_sim.specs.Reach.{CanRun};
+ghost use Rattle.pre_sim.specs.Keeps.{IsFrameOf};
+ghost use Rattle.pre_sim.specs.Arriving.{IsStored};
+ghost use Rattle.pre_sim.specs.Parts.{scenario_of};
+
+use crate::halts::Halt;
+use crate::plans::Plan;
+use pre_base::{ArcId, FrameNo, Prio};
+use pre_frame::build;
+use pre_rings::{FrameRef, FrameStore, Slot};
+use pre_streams::Row;
+use pre_topo::Network;
+
+/// The greatest frame, in octets.
+const MAX_FRAME: usize = 1522;
+
+/// Puts octets into a slot that was in. Without one there is no memory for them.
+pub(crate) fn stored(store: &mut FrameStore, octets: &[u8]) -> Result<Slot, Halt>
+    requires { length octets.now ≤ 1522 }
+    ensures stored { IfOk result (λ slot. IsStored store.old octets.now slot store.new) }
+    ensures memory { IfErr result (λ e. e ≡ Memory) }
+{
+    let Some(slot) = store.take_slot() else {
+        return Err(Halt::Memory);
+    };
+    store.fill(&slot, octets);
+    Ok(slot)
+}
+
+/// The frame of a send of the script, in a slot of its own.
+pub(crate) fn frame_of(plan: &Plan, number: usize, store: &mut FrameStore) -> Result<FrameRef, Halt>
+    requires can { CanRun plan.now.net.now plan.now.streams.now plan.now.script.now }
+    requires known { number < length plan.now.script.now.sends }
+    ensures frame { IfOk result (λ f. IsFrameOf (scenario_of plan.now) store.new f) }
+    ensures number { IfOk result (λ f. f.frame.0 ≡ number) }
+    ensures stored { IfOk result (λ f. IsStored store.old (FrameOf (scenario_of plan.now) number) f.slot store.new) }
+    ensures memory { IfErr result (λ e. e ≡ Memory) }
+{
+    let mut octets = [0u8; MAX_FRAME];
+    let size = put_frame(plan, number, &mut octets);
+    let row = row_of(plan, number);
+    let slot = stored(store, &octets[..size])?;
+    Ok(FrameRef {
+        slot,
+        frame: FrameNo(number as u32),
+        size: size as u16,
+        prio: prio_of(row),
+        vid: row.vid,
+    })
+}
+
+/// The octets of the frame of a send at the front of `into`: how many there are.
+fn put_frame(plan: &Plan, number: usize, into: &mut [u8; MAX_FRAME]) -> usize
+    requires can { CanRun plan.now.net.now plan.now.streams.now plan.now.script.now }
+    requires known { number < length plan.now.script.now.sends }
+    ensures size { result ≡ (send (scenario_of plan.now) number).send.size }
+    ensures range { (64 ≤ result) × (result ≤ 1522) }
+    ensures octets { into.new ≡ FrameOf (scenario_of plan.now) number ++ drop result into.old }
+{
+    let size = plan.script.sends.as_slice()[number].send.size;
+    let row = row_of(plan, number);
+    let route = row.route.as_slice();
+    let destination = route[route.len() - 1];
+    let number = FrameNo(number as u32);
+    match build(
+        into,
+        destination,
+        route[0],
+        prio_of(row),
+        row.vid,
+        number,
+        size,
+    ) {
+        Ok(size) => size,
+        Err(_) => unreachable!(),
+    }
+}
+
+/// The row of a send of the script.
+fn row_of<'a>(plan: &Plan<'a>, number: usize) -> &'a Row
+    requires can { CanRun plan.now.net.now plan.now.streams.now plan.now.script.now }
+    requires known { number < length plan.now.script.now.sends }
+    ensures here { result.now ≡ row (scenario_of plan.now) number }
+    ensures row { IsRow plan.now.net.now result.now }
+{
+    let send = plan.script.sends.as_slice()[number].send;
+    &plan.streams.rows.as_slice()[send.stream.0 as usize]
+}
+
+/// The priority of a row.
+fn prio_of(row: &Row) -> Prio
+    ensures same { result ≡ row.now.prio }
+    ensures below { result < 8 }
+{
+    let prio = row.prio;
+    prove!(prio.number() < 8);
+    prio
+}
+
+/// The first arc of a row's route.
+#[tactic(auto, using(crate::proofs::Routes::first_arc_known))]
+fn first_of(net: &Network, row: &Row) -> ArcId
+    requires row { IsRow net.now row.now }
+    ensures known { result.0 < length net.now.arcs }
+    ensures first { slice_get row.now.arcs 0 ≡ Some result }
+{
+    row.arcs.as_slice()[0]
+}
+
+/// The first arc of the route of a send of the script.
+pub(crate) fn first_arc(plan: &Plan, number: usize) -> ArcId
+    requires can { CanRun plan.now.net.now plan.now.streams.now plan.now.script.now }
+    requires known { number < length plan.now.script.now.sends }
+    ensures known { result.0 < length plan.now.net.now.arcs }
+    ensures first { result.0 ≡ comings.first_arc (scenario_of plan.now) number }
+{
+    first_of(plan.net, row_of(plan, number))
+}
