@@ -6,7 +6,6 @@ use Rattle.std.proofs.lemmas.Bool.{cases_lt}
 use Rattle.std.proofs.lemmas.List.{append-nil}
 use Rattle.std.proofs.lemmas.List.Elements.{filter_map-append}
 use Rattle.std.proofs.lemmas.List.Sums.{fold-append}
-use Rattle.std.proofs.lemmas.Bool.Decides.{nat_tests}
 use Rattle.pre_base.specs.declared.numbers.FrameNo.{FrameNo}
 use Rattle.pre_base.specs.declared.numbers.ArcId.{ArcId}
 use Rattle.pre_streams.specs.declared.rows.Row.{Row}
@@ -32,6 +31,7 @@ use Rattle.pre_trace.specs.Placed.{number, AllBefore}
 use Rattle.pre_trace.specs.Ordered.{IsOrdered, HaveArrived}
 use Rattle.pre_trace.specs.Legal.{LegalUpTo}
 use Rattle.pre_trace.specs.Deliveries.{IsDirect}
+use Rattle.pre_trace.proofs.Undamaged.{user_frame}
 use Rattle.pre_sim.specs.declared.lanes.Flight.{Flight}
 use Rattle.pre_sim.specs.declared.lanes.Lane.{Lane}
 use Rattle.pre_sim.specs.Reach.{CanRun}
@@ -44,11 +44,12 @@ use Rattle.pre_sim.proofs.Lists.{headed, none_at, every_at}
 use Rattle.pre_sim.proofs.Moments.{one_more, whole_front, arrivals_place, arrivals_early, number_before}
 use Rattle.pre_sim.proofs.Arrived.{none_flies, first_flies, arrived_lane}
 use Rattle.pre_sim.proofs.Arriving.{all_arrived, none_arrives, one_arrives}
-use Rattle.pre_sim.proofs.Direct.{is_direct, user_frame}
+use Rattle.pre_sim.proofs.Direct.{is_direct}
 use Rattle.pre_sim.proofs.Inside.{arrived_inside}
 use Rattle.pre_sim.proofs.EndParts.{moved, still_same, stays_standing}
 use Rattle.pre_sim.proofs.Keeping.{keep_same, keep_arrived, keep_delivered}
 use Rattle.pre_sim.proofs.Onwards.{goes_onward, still_over, stays_for}
+use Rattle.pre_sim.proofs.NumberTests.{is_eq}
 
 -- what is known of arrivals in legal histories
 pub record ArrivalLaws : Type 0 where
@@ -61,9 +62,6 @@ pub record ArrivalLaws : Type 0 where
 -- what is known of the routes of a scenario
 abbrev pub GoAlong : Scenario → Type 0
 GoAlong w = All (λ (r : Row). (i : ℕ) (b : ArcId) → slice_get r.arcs i ≡ Some b → table.onward w.net w.streams b.0 r.vid ≡ slice_get r.arcs (i + 1)) w.streams.rows
-
-is_eq : (m n : ℕ) → m ≡ n → (m == n) ≡ true
-is_eq m n e = grind (arith, nat_tests)
 
 there_is : {X : Type 0} (o : Option X) → o ≢ None → (x : X) × (o ≡ Some x)
 there_is None other = absurd (other refl)

@@ -1,5 +1,5 @@
 -- What flies next, and the lane after it arrived.
-use Rattle.std.proofs.Common.{ℕ, zero, suc, ◌≡◌, ◌+◌, ◌-◌, ◌≤◌, List, [], ◌∷◌, length, drop, refl, ap, arith, subst, Option, Some}
+use Rattle.std.proofs.Common.{ℕ, ◌≡◌, ◌+◌, ◌-◌, ◌≤◌, List, [], ◌∷◌, length, drop, refl, arith, subst, Option, Some}
 use Rattle.std.specs.Prelude.{slice_get}
 use Rattle.std.proofs.lemmas.List.{drop-drop, length-drop}
 use Rattle.pre_trace.specs.Scenario.{Scenario}
@@ -8,6 +8,7 @@ use Rattle.pre_rings.specs.Ports.{Port}
 use Rattle.pre_sim.specs.declared.lanes.Sending.{Sending}
 use Rattle.pre_sim.specs.declared.lanes.Flight.{Flight}
 use Rattle.pre_sim.specs.Stands.{IsFlying, AreFlying, IsLane}
+use Rattle.pre_sim.proofs.Lists.{at_drop}
 
 -- nothing flies where all that ended has arrived
 pub none_flies : (w : Scenario) (a : ℕ) (begins : List Begin) (ends : List Ended) (n : ℕ) → AreFlying w a begins [] (drop n ends) → length ends ≤ n
@@ -16,11 +17,6 @@ none_flies w a begins ends n flies = let long : length (drop n ends) ≡ length 
     go : (es : List Ended) → AreFlying w a begins [] es → length es ≡ 0
     go [] all = refl
     go (e ∷ es) all = absurd all
-
-at_drop : (ends : List Ended) (n : ℕ) (e : Ended) (es : List Ended) → drop n ends ≡ e ∷ es → slice_get ends n ≡ Some e
-at_drop ends zero e es is = ap (λ (xs : List Ended). slice_get xs 0) is
-at_drop [] (suc n) e es is = absurd (cc is)
-at_drop (x ∷ ends) (suc n) e es is = at_drop ends n e es is
 
 -- the first flight is the end behind those that arrived
 pub first_flies : (w : Scenario) (a : ℕ) (begins : List Begin) (ends : List Ended) (n : ℕ) (f : Flight) (fs : List Flight) → AreFlying w a begins (f ∷ fs) (drop n ends) → (e : Ended) × (slice_get ends n ≡ Some e) × IsFlying w a begins f e

@@ -1,90 +1,11 @@
 -- How many of the frames of a list, of the rings of a port and of lanes stand in a slot.
-use Rattle.std.proofs.Common.{ℕ, zero, suc, ◌≡◌, ◌≢◌, ◌+◌, ◌<◌, ◌≤◌, ◌==◌, true, false, cond, List, [], ◌∷◌, ◌++◌, length, refl, ◌∙◌, ap, arith, subst, Some}
-use Rattle.std.specs.Prelude.{slice_get, slice_index_or, set}
+use Rattle.std.proofs.Common.{ℕ, zero, suc, ◌≡◌, ◌≢◌, ◌+◌, ◌<◌, ◌≤◌, ◌==◌, cond, List, [], ◌∷◌, ◌++◌, length, refl, ◌∙◌, ap, arith}
+use Rattle.std.specs.Prelude.{slice_index_or, set}
 use Rattle.std.specs.List.{sum_by, AllByRecursion as Every}
-use Rattle.std.proofs.lemmas.Bool.Decides.{nat_tests}
 use Rattle.std.proofs.lemmas.List.Sums.{sum_by-cons, sum_by-append, sum_by-set}
-use Rattle.std.proofs.lemmas.Option.{get_or_from_slice_get, slice_get_within}
 use Rattle.pre_rings.specs.declared.slots.FrameRef.{FrameRef}
 use Rattle.pre_sim.specs.Keeps.{among}
-
--- ---- sums over a list
-
--- with another element at a place
-pub sum-set : {X : Type 0} (f : X → ℕ) (xs : List X) (i : ℕ) (x y : X) → slice_get xs i ≡ Some x → sum_by f (set xs i y) + f x ≡ sum_by f xs + f y
-sum-set f xs i x y at = subst (λ z. sum_by f (set xs i y) + f z ≡ sum_by f xs + f y) (get_or_from_slice_get xs i x x at) (sum_by-set f xs i y x (slice_get_within xs i x at))
-
--- no element gives more than all
-pub sum-one : {X : Type 0} (f : X → ℕ) (xs : List X) (i : ℕ) (x : X) → slice_get xs i ≡ Some x → f x ≤ sum_by f xs
-sum-one f [] i x at = absurd (cc at)
-sum-one f (y ∷ xs) zero x at = let same : y ≡ x = cc at in omega (arith, sum_by-cons f y xs, ap f same)
-sum-one f (y ∷ xs) (suc i) x at = omega (arith, sum_by-cons f y xs, sum-one f xs i x at)
-
--- where each gives nothing, all do
-pub sum-none : {X : Type 0} (f : X → ℕ) (xs : List X) → ((i : ℕ) (x : X) → slice_get xs i ≡ Some x → f x ≡ 0) → sum_by f xs ≡ 0
-sum-none f [] none = refl
-sum-none f (x ∷ xs) none = omega (arith, sum_by-cons f x xs, none zero x refl, sum-none f xs (λ i y at. none (suc i) y at))
-
--- ---- elements at places
-
--- the element that was put there
-pub set_here : {X : Type 0} (xs : List X) (i : ℕ) (x y : X) → slice_get xs i ≡ Some x → slice_get (set xs i y) i ≡ Some y
-set_here [] i x y at = absurd (cc at)
-set_here (z ∷ xs) zero x y at = refl
-set_here (z ∷ xs) (suc i) x y at = set_here xs i x y at
-
--- the others stay
-pub set_elsewhere : {X : Type 0} (xs : List X) (i j : ℕ) (y : X) → j ≢ i → slice_get (set xs i y) j ≡ slice_get xs j
-set_elsewhere [] i j y other = refl
-set_elsewhere (x ∷ xs) zero zero y other = absurd (other refl)
-set_elsewhere (x ∷ xs) zero (suc j) y other = refl
-set_elsewhere (x ∷ xs) (suc i) zero y other = refl
-set_elsewhere (x ∷ xs) (suc i) (suc j) y other = set_elsewhere xs i j y (λ e. other (ap suc e))
-
--- the same element, put there again
-pub set_same : {X : Type 0} (xs : List X) (i : ℕ) (x : X) → slice_get xs i ≡ Some x → set xs i x ≡ xs
-set_same [] i x at = refl
-set_same (y ∷ xs) zero x at = let same : x ≡ y = cc at in ap (λ z. z ∷ xs) same
-set_same (y ∷ xs) (suc i) x at = ap (λ zs. y ∷ zs) (set_same xs i x at)
-
--- what was put there first is no more
-pub set_twice : {X : Type 0} (xs : List X) (i : ℕ) (x y : X) → set (set xs i x) i y ≡ set xs i y
-set_twice [] i x y = refl
-set_twice (z ∷ xs) zero x y = refl
-set_twice (z ∷ xs) (suc i) x y = ap (λ zs. z ∷ zs) (set_twice xs i x y)
-
--- an element of a list with another at a place
-pub set_cases : {X : Type 0} (P : ℕ → X → Type 0) (xs : List X) (i : ℕ) (y : X) → ((j : ℕ) (x : X) → slice_get xs j ≡ Some x → P j x) → P i y → (j : ℕ) (x : X) → slice_get (set xs i y) j ≡ Some x → P j x
-set_cases P [] i y each here j x at = absurd (cc at)
-set_cases P (z ∷ xs) zero y each here zero x at = subst (P zero) (cc at) here
-set_cases P (z ∷ xs) zero y each here (suc j) x at = each (suc j) x at
-set_cases P (z ∷ xs) (suc i) y each here zero x at = each zero x at
-set_cases P (z ∷ xs) (suc i) y each here (suc j) x at = set_cases (λ k v. P (suc k) v) xs i y (λ k v at'. each (suc k) v at') here j x at
-
--- an element of a list with one more
-pub each_pushed : {X : Type 0} (P : ℕ → X → Type 0) (xs : List X) (y : X) → ((i : ℕ) (x : X) → slice_get xs i ≡ Some x → P i x) → P (length xs) y → (i : ℕ) (x : X) → slice_get (xs ++ y ∷ []) i ≡ Some x → P i x
-each_pushed P [] y each here zero x at = subst (P zero) (cc at) here
-each_pushed P [] y each here (suc i) x at = absurd (cc at)
-each_pushed P (z ∷ xs) y each here zero x at = each zero x at
-each_pushed P (z ∷ xs) y each here (suc i) x at = each_pushed (λ k v. P (suc k) v) xs y (λ k v at'. each (suc k) v at') here i x at
-
--- ---- frames in a slot
-
--- equal numbers
-is_eq : (m n : ℕ) → m ≡ n → (m == n) ≡ true
-is_eq m n e = grind (arith, nat_tests)
-
--- numbers that differ
-not_eq : (m n : ℕ) → m ≢ n → (m == n) ≡ false
-not_eq m n other = grind (arith, nat_tests)
-
--- what the test says
-pub same_number : (m n : ℕ) → (m == n) ≡ true → m ≡ n
-same_number m n e = grind (arith, nat_tests)
-
--- and where it fails
-pub other_number : (m n : ℕ) → (m == n) ≡ false → m ≢ n
-other_number m n e = grind (arith, nat_tests)
+use Rattle.pre_sim.proofs.NumberTests.{is_eq, not_eq}
 
 -- one that stands in it
 pub among-here : (s : ℕ) (f : FrameRef) (fs : List FrameRef) → f.slot ≡ s → among s (f ∷ fs) ≡ 1 + among s fs

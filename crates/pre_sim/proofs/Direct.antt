@@ -1,14 +1,14 @@
 -- What can be run goes whole over each arc of its route, and nothing of it is lost or damaged.
 use Rattle.std.proofs.Common.{ℕ, zero, suc, ◌≡◌, ◌≢◌, ◌+◌, ◌<◌, ◌≤◌, List, [], ◌∷◌, length, map, refl, sym, ◌∙◌, ap, arith, subst, Option, Some, None, IsTrue}
-use Rattle.std.specs.Prelude.{Bool, true, false, ◌||◌, ◌&&◌, slice_get, slice_index_or, is_some, All, AllPairs, Contains}
+use Rattle.std.specs.Prelude.{Bool, true, false, slice_get, slice_index_or, is_some, All, AllPairs, Contains}
 use Rattle.std.specs.List.{list_all}
 use Rattle.std.specs.Option.{option_map_or}
-use Rattle.std.proofs.lemmas.Bool.{false≢true}
-use Rattle.std.proofs.lemmas.List.{length-map}
+use Rattle.std.proofs.lemmas.Bool.{false≢true, false_from_ne_true}
+use Rattle.std.proofs.lemmas.List.{length-map, nil_from_length}
 use Rattle.std.proofs.lemmas.Option.{slice_get-get_or}
+use Rattle.std.proofs.Math.ListN.{get_or-map}
 use Rattle.pre_base.specs.declared.numbers.NodeId.{NodeId}
 use Rattle.pre_base.specs.declared.numbers.ArcId.{ArcId}
-use Rattle.pre_curve.specs.declared.curves.Curve.{Curve}
 use Rattle.pre_topo.specs.declared.network.Network.{Network}
 use Rattle.pre_topo.specs.declared.arcs.Arc.{Arc}
 use Rattle.pre_topo.specs.declared.arcs.Mode.{Mode}
@@ -17,13 +17,12 @@ use Rattle.pre_streams.specs.declared.rows.Row.{Row}
 use Rattle.pre_streams.specs.Rows.{IsRow, Leads}
 use Rattle.pre_script.specs.Rules.{is_off}
 use Rattle.pre_script.specs.Saying.{is_off_at, may_be_sent}
-use Rattle.pre_frame.specs.Layout.{frame_of}
-use Rattle.pre_lldp.specs.LldpLayout.{is_lldp_frame}
-use Rattle.pre_trace.specs.Scenario.{Scenario, arc, row, send, no_arc, no_row, no_send, FrameOf}
+use Rattle.pre_trace.specs.Scenario.{Scenario, arc, row, send, no_arc, no_row, no_send}
 use Rattle.pre_trace.specs.Comings.{hops}
 use Rattle.pre_trace.specs.Deliveries.{IsDirect, IsPlain}
 use Rattle.pre_sim.specs.Reach.{CanRun}
 use Rattle.pre_sim.proofs.Lists.{read_at, within}
+use Rattle.pre_sim.proofs.NumberTests.{both_true, or_false}
 
 -- ---- routes
 
@@ -51,18 +50,12 @@ arcs_differ net r is i j d lt lt' same =
     is.route.once i j n lt (omega (arith, lt', is.route.hops)) (ap (λ m. m.0) from)
 
 index_map : (xs : List ArcId) (i : ℕ) (d : ℕ) → slice_index_or (map (λ (a : ArcId). a.0) xs) i d ≡ (slice_index_or xs i (record { 0 = d })).0
-index_map [] i d = refl
-index_map (x ∷ xs) zero d = refl
-index_map (x ∷ xs) (suc i) d = index_map xs i d
+index_map xs i d = get_or-map (λ (a : ArcId). a.0) xs i (record { 0 = d })
 
 pub hops_long : (w : Scenario) (f : ℕ) → length (hops w f) ≡ length (row w f).arcs
 hops_long w f = length-map (row w f).arcs (λ (a : ArcId). a.0)
 
 -- ---- a row whose arcs never preempt
-
-or_false : (b : Bool) (c : Bool) → b ≡ false → IsTrue (b || c) → c ≡ true
-or_false true c off passes = absurd (false≢true (sym off))
-or_false false c off passes = passes
 
 off_mode : (m : Mode) → is_off m ≡ true → m ≡ mode.Off
 off_mode mode.Off is = refl
@@ -76,22 +69,10 @@ off_at net a is = go (slice_get net.arcs a) refl is
     go None at passes = absurd (false≢true passes)
     go (Some x) at passes = ap (λ (y : Arc). y.mode) (read_at net.arcs a x no_arc at) ∙ off_mode x.mode passes
 
-both_true : (b c : Bool) → (b && c) ≡ true → (b ≡ true) × (c ≡ true)
-both_true true c is = (refl, is)
-both_true false c is = absurd (false≢true is)
-
 all_at : (test : ArcId → Bool) (xs : List ArcId) → list_all test xs ≡ true → (i : ℕ) (d : ArcId) → i < length xs → test (slice_index_or xs i d) ≡ true
 all_at test [] all i d lt = absurd (omega (arith, lt))
 all_at test (x ∷ xs) all zero d lt = (both_true (test x) (list_all test xs) all).0
 all_at test (x ∷ xs) all (suc i) d lt = all_at test xs (both_true (test x) (list_all test xs) all).1 i d (omega (arith, lt))
-
-no_curve : (o : Option Curve) → ((is_some o ≡ true) → ⊥) → is_some o ≡ false
-no_curve (Some c) none = absurd (none refl)
-no_curve None none = refl
-
-none_of : {X : Type 0} (xs : List X) → length xs ≡ 0 → xs ≡ []
-none_of [] is = refl
-none_of (x ∷ xs) is = absurd (omega (arith, is))
 
 module _ (w : Scenario) (can : CanRun w.net w.streams w.script) where
   -- the row of a frame of the script
@@ -120,7 +101,7 @@ module _ (w : Scenario) (can : CanRun w.net w.streams w.script) where
   all_off f lt low i d in_hops =
       let r = known_row f lt in
       let rules = row_is f lt in
-      let flow : is_some (row w f).curve ≡ false = no_curve (row w f).curve (λ some. let high : w.net.express_from ≤ (row w f).prio = rules.stream some in omega (arith, low, high)) in
+      let flow : is_some (row w f).curve ≡ false = false_from_ne_true (is_some (row w f).curve) (λ some. let high : w.net.express_from ≤ (row w f).prio = rules.stream some in omega (arith, low, high)) in
       let may : IsTrue (may_be_sent w.net (row w f)) = subst (λ x. IsTrue (may_be_sent w.net x)) (sym r.2) r.5 in
       let all = or_false (is_some (row w f).curve) (list_all (λ (x : ArcId). is_off_at w.net x.0) (row w f).arcs) flow may in
       let here = all_at (λ (x : ArcId). is_off_at w.net x.0) (row w f).arcs all i (record { 0 = d }) (omega (arith, in_hops, hops_long w f)) in
@@ -134,8 +115,8 @@ module _ (w : Scenario) (can : CanRun w.net w.streams w.script) where
         arcs_differ w.net (row w f) (row_is f lt) i j (record { 0 = d }) i_lt (omega (arith, j_lt, long))
         (sym (index_map (row w f).arcs i d) ∙ (same ∙ index_map (row w f).arcs j d));
     whole = all_off;
-    losses = none_of w.script.losses can.script_fits.losses;
-    damages = none_of w.script.damages can.script_fits.damages;
+    losses = nil_from_length w.script.losses can.script_fits.losses;
+    damages = nil_from_length w.script.damages can.script_fits.damages;
     sizes = λ f lt.
         let r = known_row f lt in
         let rules = row_is f lt in
@@ -149,8 +130,3 @@ module _ (w : Scenario) (can : CanRun w.net w.streams w.script) where
   -- a frame of the route goes whole over the arc
   pub off_on_route : (f a : ℕ) → f < length w.script.sends → Contains (hops w f) a → (row w f).prio < w.net.express_from → (arc w a).mode ≡ mode.Off
   off_on_route f a lt (i, in_hops, is) low = subst (λ n. (arc w n).mode ≡ mode.Off) is (all_off f lt low i a in_hops)
-
--- a frame of the script is no LLDP frame
-pub user_frame : (w : Scenario) (f : ℕ) → is_lldp_frame (FrameOf w f) ≡ false
-unfolding frame_of
-user_frame w f = refl

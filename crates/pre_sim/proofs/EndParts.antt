@@ -4,7 +4,6 @@ use Rattle.std.specs.Prelude.{slice_get, set, MatchOption, IfSome}
 use Rattle.std.specs.List.{list_any, AllByRecursion as Every}
 use Rattle.std.proofs.lemmas.List.{append-nil}
 use Rattle.std.proofs.lemmas.List.Elements.{filter_map-append}
-use Rattle.std.proofs.lemmas.Bool.Decides.{nat_tests}
 use Rattle.std.proofs.Math.Path.{fun_ext}
 use Rattle.pre_rings.specs.Ports.{Port}
 use Rattle.pre_rings.specs.Stores.{HoldsAt}
@@ -18,6 +17,7 @@ use Rattle.pre_trace.specs.Rules.{HappensIn, last_four}
 use Rattle.pre_trace.specs.Placed.{number, AllBefore}
 use Rattle.pre_trace.specs.Ordered.{IsOrdered, HaveSizes}
 use Rattle.pre_trace.specs.Legal.{LegalUpTo}
+use Rattle.pre_trace.proofs.Undamaged.{length-FrameOf}
 use Rattle.pre_bridge.specs.Inside.{Entry}
 use Rattle.pre_sim.specs.declared.lanes.Sending.{Sending}
 use Rattle.pre_sim.specs.declared.lanes.Flight.{Flight}
@@ -31,7 +31,8 @@ use Rattle.pre_sim.proofs.Direct.{known_row}
 use Rattle.pre_sim.proofs.Keeping.{keep_same, keep_ended}
 use Rattle.pre_sim.proofs.Lists.{read_at}
 use Rattle.pre_sim.proofs.Moments.{one_more, whole_front, ends_place, ends_early, begins_on}
-use Rattle.pre_sim.proofs.Ending.{size_is, none_ends, not_yet, ends_now, ended_lane}
+use Rattle.pre_sim.proofs.Ending.{none_ends, not_yet, ends_now, ended_lane}
+use Rattle.pre_sim.proofs.NumberTests.{is_eq}
 
 -- what is known of legal histories
 pub record Laws : Type 0 where
@@ -70,9 +71,6 @@ stays_standing w h a t lane items is = subst (λ g. LaneStands w g a t lane item
 pub with_no_more : (w : Scenario) (h : History) (a t : ℕ) (lane : Lane) (items : List Entry) → LaneStands w h a t lane items → LaneStands w h a t lane (items ++ [])
 with_no_more w h a t lane items is = subst (λ xs. LaneStands w h a t lane xs) (sym (append-nil items)) is
 
-is_eq : (m n : ℕ) → m ≡ n → (m == n) ≡ true
-is_eq m n e = grind (arith, nat_tests)
-
 -- what is being sent is a frame of the script, and no short one
 pub under_way_is : (w : Scenario) (store : Store) (a : ℕ) (lane : Lane) (s : Sending) → LaneKeeps w store a lane → lane.sending ≡ Some s → IsUnderWay w store a s
 under_way_is w store a lane s keeps at = subst (λ (o : Option Sending). IfSome o (IsUnderWay w store a)) at keeps.sending
@@ -89,7 +87,7 @@ pub with_check : (w : Scenario) → CanRun w.net w.streams w.script → (store :
 with_check w can store a s octets is holds =
     let size = is.frame.size in
     let low = long_enough w can store a s is in
-    omega (arith, ap length (held_octets w store a s octets is holds), size_is w s.frame.frame.0 (omega (arith, size, low)), size, low)
+    omega (arith, ap length (held_octets w store a s octets is holds), length-FrameOf w s.frame.frame.0 (omega (arith, size, low)), size, low)
 
 module _ (laws : Laws) (w : Scenario) (can : CanRun w.net w.streams w.script) (t a : ℕ) (a_lt : a < length w.net.arcs) (store : Store) (lane : Lane) (keeps : LaneKeeps w store a lane) where
   module _ (h : History) (items : List Entry) (legal : LegalAt w t (1 + a) h) (is : LaneStands w h a t lane items) where

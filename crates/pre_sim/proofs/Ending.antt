@@ -2,13 +2,11 @@
 use Rattle.std.proofs.Common.{ℕ, ◌≡◌, ◌≢◌, ◌==◌, ◌+◌, ◌*◌, ◌<◌, ◌≤◌, true, List, [], ◌∷◌, ◌++◌, length, drop, refl, sym, ◌∙◌, ap, inl, inr, arith, subst, Some, None}
 use Rattle.std.specs.Prelude.{slice_get}
 use Rattle.std.specs.List.{AllByRecursion as Every}
-use Rattle.std.proofs.lemmas.Bool.Decides.{nat_tests}
 use Rattle.std.proofs.lemmas.List.{length-append}
-use Rattle.pre_frame.specs.FrameFacts.{length-frame_of}
 use Rattle.pre_mpacket.specs.declared.packets.Kind.TheVariants as kind
 use Rattle.pre_rings.specs.Ports.{Port}
 use Rattle.pre_trace.specs.declared.events.What.TheVariants as what
-use Rattle.pre_trace.specs.Scenario.{Scenario, arc, row, send, source, destination, FrameOf}
+use Rattle.pre_trace.specs.Scenario.{Scenario, arc, send, FrameOf}
 use Rattle.pre_trace.specs.Moments.{Phase}
 use Rattle.pre_trace.specs.History.{PlainEvent, History, Begin, Ended}
 use Rattle.pre_trace.specs.Queries.{Begins, Ends}
@@ -16,17 +14,12 @@ use Rattle.pre_trace.specs.Octets.{WholeOf, whole_of}
 use Rattle.pre_trace.specs.Starts.{SizeOf}
 use Rattle.pre_trace.specs.Rules.{OneOrNone, EndDue, CheckOf, last_four, HappensIn}
 use Rattle.pre_trace.specs.Ordered.{IsOrdered, HaveSizes}
+use Rattle.pre_trace.proofs.Undamaged.{length-FrameOf}
 use Rattle.pre_sim.specs.declared.lanes.Sending.{Sending}
 use Rattle.pre_sim.specs.declared.lanes.Flight.{Flight}
 use Rattle.pre_sim.specs.Stands.{IsSent, IsFlying, AreFlying, IsWholeBegin, IsLane}
 use Rattle.pre_sim.proofs.Lists.{there, within, at_last, every-append, every_weaker, every_at, drop-append, each_empty, each_at}
-
-is_eq : (m n : ℕ) → m ≡ n → (m == n) ≡ true
-is_eq m n e = grind (arith, nat_tests)
-
--- a frame is as long as its send says
-pub size_is : (w : Scenario) (n : ℕ) → 26 ≤ (send w n).send.size → length (FrameOf w n) ≡ (send w n).send.size
-size_is w n low = length-frame_of (destination w n) (source w n) (row w n).prio (row w n).vid n (send w n).send.size low
+use Rattle.pre_sim.proofs.NumberTests.{is_eq}
 
 module _ (w : Scenario) (h : History) (t a : ℕ) (order : IsOrdered w h a) (sizes : HaveSizes w h a)
     (on : Every (λ (b : Begin). b.arc ≡ a) (Begins h a)) (early : Every (λ (e : Ended). e.tick < t) (Ends h a)) (whole : Every IsWholeBegin (Begins h a)) where
@@ -60,7 +53,7 @@ module _ (w : Scenario) (h : History) (t a : ℕ) (order : IsOrdered w h a) (siz
     whole_is = ap (whole_of w h b) is.carries.what
 
     long : length (WholeOf w h b) ≡ s.frame.size
-    long = ap length whole_is ∙ (size_is w s.frame.frame.0 (omega (arith, size, low)) ∙ sym size)
+    long = ap length whole_is ∙ (length-FrameOf w s.frame.frame.0 (omega (arith, size, low)) ∙ sym size)
 
     due_is : s.due.0 ≡ b.tick + (arc w a).cost * (s.frame.size + 8)
     due_is = is.due ∙ ap (λ n. b.tick + (arc w a).cost * (n + 8)) (sym size)

@@ -6,7 +6,6 @@ use Rattle.std.proofs.Math.Path.{fun_ext}
 use Rattle.std.proofs.lemmas.Bool.{cases_eq, cases_lt}
 use Rattle.std.proofs.lemmas.List.{append-nil, map-append, get_or_past}
 use Rattle.std.proofs.lemmas.List.Elements.{filter_map-append, filter-append}
-use Rattle.std.proofs.lemmas.Bool.Decides.{nat_tests}
 use Rattle.pre_rings.specs.declared.slots.FrameRef.{FrameRef}
 use Rattle.pre_rings.specs.Ports.{Port, IsPort, frames_at, capacity_at, with_frames}
 use Rattle.pre_trace.specs.Scenario.{Scenario, row, capacity}
@@ -18,21 +17,13 @@ use Rattle.pre_sim.specs.declared.lanes.Sending.{Sending}
 use Rattle.pre_sim.specs.declared.lanes.Flight.{Flight}
 use Rattle.pre_sim.specs.Stands.{IsLane, AreApart, ring_numbers, has_begun, StillWaiting}
 use Rattle.pre_sim.proofs.Lists.{every-append}
-
-no_eq : (m n : ℕ) → m < n → (m == n) ≡ false
-no_eq m n lt = grind (arith, nat_tests)
-
-is_eq : (m n : ℕ) → m ≡ n → (m == n) ≡ true
-is_eq m n e = grind (arith, nat_tests)
-
-not_eq : (m n : ℕ) → m ≢ n → (m == n) ≡ false
-not_eq m n other = grind (arith, nat_tests)
+use Rattle.pre_sim.proofs.NumberTests.{is_eq, not_eq}
 
 -- ---- the rule
 
 -- the event of a frame that comes to a ring with room
 pub enters : (w : Scenario) (t : ℕ) (h : History) (c : Coming) → length (Waiting h c.arc (row w c.frame).prio t) < capacity w c.arc (row w c.frame).prio → entry_event w t h c ≡ PlainEvent.enter (entry_for w t c)
-enters w t h c lt = rw (no_eq (length (Waiting h c.arc (row w c.frame).prio t)) (capacity w c.arc (row w c.frame).prio) lt) refl
+enters w t h c lt = rw (not_eq (length (Waiting h c.arc (row w c.frame).prio t)) (capacity w c.arc (row w c.frame).prio) (λ e. omega (arith, e, lt))) refl
 
 -- and to a full one
 pub drops : (w : Scenario) (t : ℕ) (h : History) (c : Coming) → length (Waiting h c.arc (row w c.frame).prio t) ≡ capacity w c.arc (row w c.frame).prio → entry_event w t h c ≡ PlainEvent.dropped (entry_for w t c)
@@ -121,7 +112,7 @@ pub still_came : (h : History) (a p f : ℕ) → Every (λ (e : RingEntry). e.fr
 unfolding StillWaiting
 still_came h a p f all = waits_came p f (has_begun h a) (Entries h a p) all
 
-abbrev still : (ℕ → Bool) → List RingEntry → List ℕ
+abbrev pub still : (ℕ → Bool) → List RingEntry → List ℕ
 still begun xs = map (λ (e : RingEntry). e.frame) (filter (λ (e : RingEntry). e.entered && not (begun e.frame)) xs)
 
 abbrev entry : (t a prio k : ℕ) → History

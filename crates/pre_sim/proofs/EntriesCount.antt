@@ -1,7 +1,6 @@
 -- The sends of a tick, one after another.
-use Rattle.std.proofs.Common.{ℕ, suc, ◌≡◌, ◌≢◌, ◌+◌, ◌<◌, ◌≤◌, Bool, true, false, List, [], ◌∷◌, ◌++◌, length, take, drop, refl, sym, ◌∙◌, ap, inl, inr, arith, subst}
-use Rattle.std.specs.Prelude.{slice_get, slice_index_or, unwrap_or, Contains, ◌==◌}
-use Rattle.std.proofs.Math.Seq.{take-append_seam}
+use Rattle.std.proofs.Common.{ℕ, suc, ◌≡◌, ◌≢◌, ◌+◌, ◌<◌, ◌≤◌, Bool, true, false, List, [], ◌∷◌, ◌++◌, length, refl, sym, ◌∙◌, ap, inl, inr, arith, subst}
+use Rattle.std.specs.Prelude.{slice_index_or, Contains, ◌==◌}
 use Rattle.std.proofs.lemmas.Bool.{cases_lt}
 use Rattle.std.proofs.lemmas.Bool.Decides.{nat_tests}
 use Rattle.pre_script.specs.declared.scripts.SendLine.{SendLine}
@@ -9,6 +8,7 @@ use Rattle.pre_trace.specs.Scenario.{Scenario, send, no_send}
 use Rattle.pre_base.specs.declared.numbers.FrameNo.{FrameNo}
 use Rattle.pre_trace.specs.History.{History}
 use Rattle.pre_trace.specs.Comings.{hops, first_arc}
+use Rattle.pre_trace.proofs.Routes.{first_on}
 use Rattle.pre_sim.specs.Reach.{CanRun}
 use Rattle.pre_bridge.specs.declared.relays.Relay.{Relay}
 use Rattle.pre_bridge.specs.Inside.{inside}
@@ -21,19 +21,10 @@ use Rattle.pre_sim.specs.Parts.{SendsFront}
 use Rattle.pre_sim.specs.Sends.{ComesPart, ComesFront, KeepsSame, sent_frame, sent_frames, drops_of}
 use Rattle.pre_sim.proofs.EntriesRun.{come_then, front_then, comes_same, front_same}
 
--- a list that was written whole
-pub written : {X : Type 0} (n : ℕ) (xs ys : List X) → length ys ≡ length xs → n ≡ length xs → take n (ys ++ drop (length ys) xs) ≡ ys
-written n xs ys same all = ap (λ m. take m (ys ++ drop (length ys) xs)) (all ∙ sym same) ∙ take-append_seam ys (drop (length ys) xs)
-
--- the first of a list is in it
-pub first_in : (xs : List ℕ) → 1 ≤ length xs → Contains xs (unwrap_or (slice_get xs 0) 0)
-first_in [] long = absurd (omega (arith, long))
-first_in (x ∷ xs) long = (0, omega arith, refl)
-
 -- a send's frame goes over the first arc of its route
 pub goes_first : (w : Scenario) → CanRun w.net w.streams w.script → (number a : ℕ) (f : FrameNo) → number < length w.script.sends → a ≡ first_arc w number → f.0 ≡ number → GoesOver w f a
 goes_first w can number a f known first is =
-    let over : Contains (hops w number) (first_arc w number) = first_in (hops w number) ((is_direct w can).routes number known) in
+    let over : Contains (hops w number) (first_arc w number) = first_on (hops w number) ((is_direct w can).routes number known) in
     subst (λ n. Contains (hops w n) a) (sym is) (subst (Contains (hops w number)) (sym first) over)
 
 -- one more was dropped, or none

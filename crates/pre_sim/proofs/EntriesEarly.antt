@@ -1,18 +1,14 @@
 -- Before the entries of a tick all that they depend on is told.
-use Rattle.std.proofs.Common.{ℕ, ◌≡◌, ◌≤◌, ◌<◌, ◌+◌, ◌*◌, ◌==◌, ◌&&◌, Bool, true, false, refl, ap, arith, subst, Some, None}
+use Rattle.std.proofs.Common.{ℕ, ◌≡◌, ◌≤◌, ◌<◌, ◌+◌, ◌*◌, ◌==◌, ◌&&◌, Bool, true, false, ap, arith, subst, Some, None}
 use Rattle.std.specs.Prelude.{if◌then◌else◌}
 use Rattle.std.specs.Option.{option_map_or}
-use Rattle.pre_trace.specs.Moments.{Phase, moments, phase_at}
+use Rattle.pre_trace.specs.Moments.{moments}
 use Rattle.pre_trace.specs.History.{PlainEvent, History, Begin, Entry}
 use Rattle.pre_trace.specs.Selected.{RingEntry, begin_on, entry_on}
 use Rattle.pre_trace.specs.Placed.{number, IsBefore, AllBefore}
 use Rattle.pre_sim.specs.Sends.{BeforeEntries}
 use Rattle.pre_sim.proofs.Lists.{every_selected}
-use Rattle.pre_sim.proofs.Moments.{tick_lt, no_eq, no_le, test_eq}
-
-pub entries_place : (arcs : ℕ) → phase_at arcs (1 + 3 * arcs) ≡ Phase.entries
-entries_place arcs =
-    rw (no_eq (1 + 3 * arcs) 0 (omega arith), no_le (1 + 3 * arcs) arcs (omega arith), no_le (1 + 3 * arcs) (2 * arcs) (omega arith), no_le (1 + 3 * arcs) (3 * arcs) (omega arith), test_eq (1 + 3 * arcs) (3 * arcs + 1) (omega arith)) refl
+use Rattle.pre_sim.proofs.Moments.{tick_lt}
 
 begin_before : (arcs t a : ℕ) (e : PlainEvent) (b : Begin) → IsBefore arcs (number arcs t (1 + 3 * arcs)) e → begin_on a e ≡ Some b → b.tick < t
 begin_before arcs t a (PlainEvent.begin c) b (m, lt, (c_lt, at)) is = go (c.arc == a) is

@@ -4,7 +4,6 @@ use Rattle.std.specs.Prelude.{if◌then◌else◌, slice_index_or}
 use Rattle.std.specs.List.{cons_option, AllByRecursion as Every}
 use Rattle.std.proofs.lemmas.List.{append-nil}
 use Rattle.std.proofs.lemmas.List.Elements.{filter_map-append, recursion_from_All}
-use Rattle.std.proofs.lemmas.Bool.Decides.{nat_tests}
 use Rattle.pre_trace.specs.Scenario.{Scenario, row, capacity}
 use Rattle.pre_trace.specs.History.{PlainEvent, History, Begin}
 use Rattle.pre_trace.specs.Selected.{RingEntry, what_is, begin_on, entry_on}
@@ -12,7 +11,8 @@ use Rattle.pre_trace.specs.Queries.{Begins, Entries, Waiting}
 use Rattle.pre_trace.specs.Comings.{Coming, EntriesOf, entry_event, entry_for}
 use Rattle.pre_trace.specs.Deliveries.{ComeOnce}
 use Rattle.pre_sim.specs.Sends.{IsNew, AreNew}
-use Rattle.pre_sim.proofs.Lists.{every-append}
+use Rattle.pre_sim.proofs.Lists.{every-append, every_front}
+use Rattle.pre_sim.proofs.NumberTests.{same_number}
 
 -- ---- of a whole moment
 
@@ -51,13 +51,13 @@ its_entry : (w : Scenario) (t a p f : ℕ) (c : Coming) (b : Bool) → (c.arc �
 its_entry w t a p f c true other = go (c.arc == a) ((row w c.frame).prio == p) refl
   where
     go : (x y : Bool) → (c.arc == a) ≡ x → Every (λ (e : RingEntry). e.frame ≢ f) (cons_option (if x && y then Some (record { tick = t; frame = c.frame; entered = false }) else None) [])
-    go true true is = let same : c.arc ≡ a = grind (arith, nat_tests) in (other same, tt)
+    go true true is = (other (same_number c.arc a is), tt)
     go true false is = tt
     go false y is = tt
 its_entry w t a p f c false other = go (c.arc == a) ((row w c.frame).prio == p) refl
   where
     go : (x y : Bool) → (c.arc == a) ≡ x → Every (λ (e : RingEntry). e.frame ≢ f) (cons_option (if x && y then Some (record { tick = t; frame = c.frame; entered = true }) else None) [])
-    go true true is = let same : c.arc ≡ a = grind (arith, nat_tests) in (other same, tt)
+    go true true is = (other (same_number c.arc a is), tt)
     go true false is = tt
     go false y is = tt
 
@@ -79,10 +79,6 @@ all_new_after w t h c [] other all = tt
 all_new_after w t h c (d ∷ ds) (here, more) (is, apart, rest) = (new_after w t h c d here is, apart, all_new_after w t h c ds more rest)
 
 -- ---- some after others
-
-every_front : (P : Coming → Type 0) (cs ds : List Coming) → Every P (cs ++ ds) → Every P cs
-every_front P [] ds all = tt
-every_front P (c ∷ cs) ds (here, more) = (here, every_front P cs ds more)
 
 pub new_front : (w : Scenario) (h : History) (cs ds : List Coming) → AreNew w h (cs ++ ds) → AreNew w h cs
 new_front w h [] ds all = tt

@@ -22,8 +22,9 @@ use Rattle.pre_sim.proofs.Bridge.{waits_still}
 use Rattle.pre_sim.proofs.EndParts.{moved, inside_same}
 use Rattle.pre_sim.proofs.Entering.{enters, drops, entered_lane, pushed, still_pushed, still_came, with_room}
 use Rattle.pre_sim.proofs.Keeping.{keep_entered, keep_dropped}
-use Rattle.pre_sim.proofs.Others.{other_stands, set_here, set_there}
+use Rattle.pre_sim.proofs.Others.{other_stands}
 use Rattle.pre_sim.proofs.EntriesTold.{still_dropped, early_entered, early_dropped}
+use Rattle.pre_sim.proofs.Lists.{set_found, set_elsewhere}
 
 -- the lane is as before but for what waits
 pub record WaitsOtherwise (lane new : Lane) : Type 0 where
@@ -79,8 +80,8 @@ module _ (w : Scenario) (t a : ℕ) (f : FrameRef) (store : Store) (old : List L
     all_stand : (e : PlainEvent) → IsOn a e → (new : Lane) → LaneStands w (h ++ e ∷ []) a t new (of_arc a entries) → LanesStand w (h ++ e ∷ []) t (set old a new) entries
     all_stand e on new is b l at = elim (cases_eq b a) [
       | inl same ↦
-          subst (λ (x : Lane). LaneStands w (h ++ e ∷ []) b t x (of_arc b entries)) (set_here old a new l (subst (λ m. slice_get (set old a new) m ≡ Some l) same at)) (subst (λ m. LaneStands w (h ++ e ∷ []) m t new (of_arc m entries)) (sym same) is)
-      | inr other ↦ other_stands a b other w h (e ∷ []) t l (of_arc b entries) (on, tt) (stand b l (set_there old a b new l other at))
+          subst (λ (x : Lane). LaneStands w (h ++ e ∷ []) b t x (of_arc b entries)) (set_found old a new l (subst (λ m. slice_get (set old a new) m ≡ Some l) same at)) (subst (λ m. LaneStands w (h ++ e ∷ []) m t new (of_arc m entries)) (sym same) is)
+      | inr other ↦ other_stands a b other w h (e ∷ []) t l (of_arc b entries) (on, tt) (stand b l (sym (set_elsewhere old a b new other) ∙ at))
     ]
 
     module _ (e : PlainEvent) (begins : Begins (h ++ e ∷ []) a ≡ Begins h a) (arrivals : Arrivals (h ++ e ∷ []) a ≡ Arrivals h a) where

@@ -16,6 +16,7 @@ use Rattle.pre_trace.specs.Comings.{Coming, sends_from, Comings, EntriesOf}
 use Rattle.pre_trace.specs.Rules.{HappensIn}
 use Rattle.pre_trace.specs.Legal.{LegalUpTo}
 use Rattle.pre_trace.specs.Deliveries.{IsDirect, ComeOnce}
+use Rattle.pre_trace.proofs.Moments.{entries_place}
 use Rattle.pre_bridge.specs.declared.relays.Relay.{Relay}
 use Rattle.pre_bridge.specs.Inside.{Call, Entry, taken, inside}
 use Rattle.pre_bridge.specs.Turns.{dues}
@@ -36,8 +37,9 @@ use Rattle.pre_sim.proofs.Inside.{left_of}
 use Rattle.pre_sim.proofs.EntriesNew.{are_new, entries_then}
 use Rattle.pre_sim.proofs.EntriesRun.{come_then, front_then, front_more}
 use Rattle.pre_sim.proofs.EntriesSends.{comings_are, few_handed, passed, none_left, next_sends}
-use Rattle.pre_sim.proofs.EntriesEarly.{entries_place, early_before}
+use Rattle.pre_sim.proofs.EntriesEarly.{early_before}
 use Rattle.pre_sim.proofs.Settling.{LeftLaws, left_inside, lanes_settle}
+use Rattle.pre_sim.proofs.NumberTests.{adds}
 
 -- what is known of legal histories
 pub record EntryLaws : Type 0 where
@@ -188,7 +190,7 @@ module _ (laws : EntryLaws) (w : Scenario) (can : CanRun w.net w.streams w.scrip
 
       pub entries_part : LeftLaws → length new.lanes.items ≡ A → mid.dropped ≡ old.dropped + lost → mid.delivered ≡ old.delivered → EntriesPart w t old new (es ++ fs)
       entries_part left_laws many_new dropped delivered = record {
-        deliveries = ap length (filter_map-append delivery_of es fs) ∙ (length-append (Deliveries es) (Deliveries fs) ∙ none_of_both first.deliveries second.part.deliveries);
+        deliveries = ap length (filter_map-append delivery_of es fs) ∙ (length-append (Deliveries es) (Deliveries fs) ∙ adds first.deliveries second.part.deliveries);
         drops = omega (arith, dropped, second.dropped, first.drops, second.part.drops, count_by-append is_dropped es fs);
         delivered = second.delivered ∙ delivered;
         legal = λ h calls legal stands stand sent_before.
@@ -197,9 +199,6 @@ module _ (laws : EntryLaws) (w : Scenario) (can : CanRun w.net w.streams w.scrip
             let legal' = legal_on h calls legal stand sent_before (es ++ fs) (done.0 ∙ ap (EntriesOf w t h) (sym all)) in
             (legal', all_sent sent_before, all_left left_laws many_new h calls legal stands stand sent_before legal' done.1);
       }
-        where
-          none_of_both : {m n : ℕ} → m ≡ 0 → n ≡ 0 → m + n ≡ 0
-          none_of_both p q = omega (arith, p, q)
 
 -- the sends after what bridges handed on, however they ended
 module _ (laws : EntryLaws) (left_laws : LeftLaws) (w : Scenario) (can : CanRun w.net w.streams w.script) (t : ℕ) (old mid new : Progress) {T : Type 0} (net : Network) (r : Result T Halt) (a b c : Takes) (torn : Fails) where

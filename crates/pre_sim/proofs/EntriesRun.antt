@@ -1,5 +1,5 @@
 -- Frames that come to rings, some after others.
-use Rattle.std.proofs.Common.{ℕ, ◌≡◌, ◌+◌, List, [], ◌++◌, length, refl, sym, ◌∙◌, ap, arith, subst, append_assoc}
+use Rattle.std.proofs.Common.{ℕ, ◌≡◌, ◌+◌, List, [], ◌++◌, length, refl, sym, ◌∙◌, ap, subst, append_assoc}
 use Rattle.std.proofs.lemmas.List.{append-nil, length-append}
 use Rattle.std.proofs.lemmas.List.Elements.{filter_map-append}
 use Rattle.pre_trace.specs.Scenario.{Scenario}
@@ -12,6 +12,7 @@ use Rattle.pre_sim.specs.Stands.{LanesStand}
 use Rattle.pre_sim.specs.Sends.{BeforeEntries, AreNew, ComesPart, ComesFront}
 use Rattle.pre_sim.proofs.Lists.{count_by-append}
 use Rattle.pre_sim.proofs.EntriesNew.{new_front, new_rest, entries_then}
+use Rattle.pre_sim.proofs.NumberTests.{adds}
 
 module _ (w : Scenario) (t : ℕ) (old : List Lane) where
   -- none came yet
@@ -25,8 +26,8 @@ module _ (w : Scenario) (t : ℕ) (old : List Lane) where
   module _ (cs ds : List Coming) (mid : List Lane) (lost : ℕ) (es : History) (first : ComesPart w t cs old mid lost es) where
     pub come_then : (new : List Lane) (more : ℕ) (fs : History) → ComesPart w t ds mid new more fs → ComesPart w t (cs ++ ds) old new (lost + more) (es ++ fs)
     come_then new more fs second = record {
-      deliveries = ap length (filter_map-append delivery_of es fs) ∙ (length-append (Deliveries es) (Deliveries fs) ∙ both first.deliveries second.deliveries);
-      drops = sum first.drops second.drops ∙ sym (count_by-append is_dropped es fs);
+      deliveries = ap length (filter_map-append delivery_of es fs) ∙ (length-append (Deliveries es) (Deliveries fs) ∙ adds first.deliveries second.deliveries);
+      drops = adds first.drops second.drops ∙ sym (count_by-append is_dropped es fs);
       come = λ h entries news stand early.
           let one = first.come h entries (new_front w h cs ds news) stand early in
           let rest : AreNew w (h ++ es) ds = subst (λ g. AreNew w (h ++ g) ds) (sym one.0) (new_rest w t h cs ds news) in
@@ -37,12 +38,6 @@ module _ (w : Scenario) (t : ℕ) (old : List Lane) where
           );
     }
       where
-        both : {a b : ℕ} → a ≡ 0 → b ≡ 0 → a + b ≡ 0
-        both p q = omega (arith, p, q)
-
-        sum : {a b c d : ℕ} → a ≡ c → b ≡ d → a + b ≡ c + d
-        sum p q = omega (arith, p, q)
-
         whole : (h : History) → es ≡ EntriesOf w t h cs → fs ≡ EntriesOf w t (h ++ es) ds → es ++ fs ≡ EntriesOf w t h (cs ++ ds)
         whole h one two =
             ap (λ g. es ++ g) (two ∙ ap (λ g. EntriesOf w t (h ++ g) ds) one) ∙ (ap (λ g. g ++ EntriesOf w t (h ++ EntriesOf w t h cs) ds) one ∙ sym (entries_then w t h cs ds))

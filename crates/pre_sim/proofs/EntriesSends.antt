@@ -1,9 +1,8 @@
 -- The frames that come to a ring at a tick are those that bridges hand on, and those of its sends.
-use Rattle.std.proofs.Common.{ℕ, zero, suc, ◌≡◌, ◌≢◌, ◌==◌, ◌+◌, ◌<◌, ◌≤◌, true, false, List, [], ◌∷◌, ◌++◌, length, drop, map, refl, sym, ◌∙◌, ap, arith, filter_map, flat_map, append_assoc}
+use Rattle.std.proofs.Common.{ℕ, zero, suc, ◌≡◌, ◌==◌, ◌+◌, ◌<◌, ◌≤◌, true, false, List, [], ◌∷◌, ◌++◌, length, drop, map, refl, sym, ◌∙◌, ap, arith, filter_map, flat_map, append_assoc}
 use Rattle.std.specs.Prelude.{slice_index_or}
 use Rattle.std.specs.List.{AllByRecursion as Every}
-use Rattle.std.proofs.lemmas.Bool.Decides.{nat_tests}
-use Rattle.std.proofs.lemmas.List.{append-nil, map-append, length-append, take_all}
+use Rattle.std.proofs.lemmas.List.{map-append, length-append, take_all, flat_map_more}
 use Rattle.pre_script.specs.declared.scripts.SendLine.{SendLine}
 use Rattle.pre_trace.specs.Scenario.{Scenario, no_arc, send, no_send}
 use Rattle.pre_trace.specs.History.{Arrive, History}
@@ -18,22 +17,13 @@ use Rattle.pre_sim.specs.Stands.{AreInside, LanesStand}
 use Rattle.pre_sim.specs.Sends.{coming_of, handed_on, sent_frame, sent_frames}
 use Rattle.pre_sim.proofs.Lists.{there}
 use Rattle.pre_sim.proofs.Inside.{AreRising, arrivals_rise, relayed_are, few_due}
-
-is_eq : (m n : ℕ) → m ≡ n → (m == n) ≡ true
-is_eq m n e = grind (arith, nat_tests)
-
-not_eq : (m n : ℕ) → m ≢ n → (m == n) ≡ false
-not_eq m n other = grind (arith, nat_tests)
+use Rattle.pre_sim.proofs.NumberTests.{is_eq, not_eq}
 
 -- ---- what bridges hand on
 
-flat_then : {X Y : Type 0} (f : X → List Y) (xs ys : List X) → flat_map f (xs ++ ys) ≡ flat_map f xs ++ flat_map f ys
-flat_then f [] ys = refl
-flat_then f (x ∷ xs) ys = ap (λ zs. f x ++ zs) (flat_then f xs ys) ∙ sym (append_assoc (f x) (flat_map f xs) (flat_map f ys))
-
--- those of one more
+-- the lists of the numbers and one more
 flat_more : {Y : Type 0} (f : ℕ → List Y) (ns : List ℕ) (n : ℕ) → flat_map f (ns ++ n ∷ []) ≡ flat_map f ns ++ f n
-flat_more f ns n = flat_then f ns (n ∷ []) ∙ ap (λ xs. flat_map f ns ++ xs) (append-nil (f n))
+flat_more f ns n = sym (flat_map_more f [] ns n)
 
 module _ (w : Scenario) (h : History) (t : ℕ) (lanes : List Lane) (entries : List Entry) (many : length lanes ≡ length w.net.arcs) (stand : LanesStand w h t lanes entries)
     (order : (a : ℕ) → a < length w.net.arcs → IsOrdered w h a) (early : (a : ℕ) → a < length w.net.arcs → Every (λ (x : Arrive). x.tick < t + 1) (Arrivals h a)) where

@@ -1,5 +1,5 @@
 -- What comes out of the bridges at a tick, one frame after another.
-use Rattle.std.proofs.Common.{ℕ, zero, suc, ◌≡◌, ◌+◌, ◌<◌, ◌≤◌, List, [], ◌∷◌, ◌++◌, length, map, take, refl, sym, ◌∙◌, ap, arith, subst, Option, Some, None, append_assoc}
+use Rattle.std.proofs.Common.{ℕ, ◌≡◌, ◌+◌, ◌<◌, ◌≤◌, List, [], ◌∷◌, ◌++◌, length, map, take, refl, sym, ◌∙◌, ap, arith, subst, Option, Some, None, append_assoc}
 use Rattle.std.specs.Prelude.{slice_get, min, replicate, option_map, find, Bool, true, false, not, if◌then◌else◌}
 use mir.Val.{bool_byte}
 use Rattle.std.proofs.lemmas.List.Sums.{fold-append}
@@ -21,45 +21,7 @@ use Rattle.pre_sim.specs.Sends.{ComesPart, ComesFront, RelaysPart, RelaysFront, 
 use Rattle.pre_sim.proofs.Keeping.{keep_taken}
 use Rattle.pre_sim.proofs.Direct.{known_arc}
 use Rattle.pre_sim.proofs.EntriesRun.{none_come, come_then, front_then, front_more, comes_same, front_same}
-
--- ---- lists
-
--- one more of the first ones
-take_one : {X : Type 0} (k : ℕ) (xs : List X) (x : X) → slice_get xs k ≡ Some x → take (k + 1) xs ≡ take k xs ++ x ∷ []
-take_one {X} k xs x at = let next : k + 1 ≡ suc k = omega arith in ap (λ n. take n xs) next ∙ go k xs at
-  where
-    go : (k : ℕ) (xs : List X) → slice_get xs k ≡ Some x → take (suc k) xs ≡ take k xs ++ x ∷ []
-    go k [] at = absurd (cc at)
-    go zero (y ∷ xs) at = ap (λ z. z ∷ []) (cc at)
-    go (suc k) (y ∷ xs) at = ap (λ zs. y ∷ zs) (go k xs at)
-
--- there are no more
-take_no_more : {X : Type 0} (k n : ℕ) (xs : List X) → slice_get xs k ≡ None → k ≤ n → take k xs ≡ take n xs
-take_no_more zero zero [] none le = refl
-take_no_more zero (suc n) [] none le = refl
-take_no_more (suc k) zero [] none le = refl
-take_no_more (suc k) (suc n) [] none le = refl
-take_no_more zero n (x ∷ xs) none le = absurd (cc none)
-take_no_more (suc k) zero (x ∷ xs) none le = absurd (omega (arith, le))
-take_no_more (suc k) (suc n) (x ∷ xs) none le = ap (λ zs. x ∷ zs) (take_no_more k n xs none (omega (arith, le)))
-
-few_at : {X : Type 0} (k : ℕ) (xs : List X) → slice_get xs k ≡ None → length xs ≤ k
-few_at k [] none = omega arith
-few_at zero (x ∷ xs) none = absurd (cc none)
-few_at (suc k) (x ∷ xs) none = let less = few_at k xs none in omega (arith, less)
-
--- the others of the first ones
-take_rest : {X : Type 0} (k n : ℕ) (xs : List X) → k ≤ n → (rest : List X) × (take n xs ≡ take k xs ++ rest)
-take_rest zero n xs le = (take n xs, refl)
-take_rest (suc k) zero xs le = absurd (omega (arith, le))
-take_rest (suc k) (suc n) [] le = ([], refl)
-take_rest (suc k) (suc n) (x ∷ xs) le = let more = take_rest k n xs (omega (arith, le)) in (more.0, ap (λ zs. x ∷ zs) more.1)
-
-least_of : (m n k : ℕ) → n ≤ k → min m n ≤ k
-least_of m n k le = omega (arith, le)
-
-least_of_first : (m n k : ℕ) → m ≤ k → min m n ≤ k
-least_of_first m n k le = omega (arith, le)
+use Rattle.pre_sim.proofs.Lists.{take_one, take_no_more, few_at, take_rest}
 
 -- ---- takes
 
@@ -184,14 +146,14 @@ module _ (w : Scenario) (t : ℕ) (relay : Relay) (old : List Lane) where
     -- there were as many takes as arcs
     pub all_taken : (calls : List Call) → Stands relay w.net w.streams calls → k ≡ length w.net.arcs → RelaysPart w t relay old now mid lost es
     all_taken calls0 stands0 is =
-        whole_part k now calls0 stands0 so_far.stands (λ calls stands. ap (λ n. take n (all calls)) is) (λ calls stands. least_of_first (length w.net.arcs) (length (all calls)) k (omega (arith, is)))
+        whole_part k now calls0 stands0 so_far.stands (λ calls stands. ap (λ n. take n (all calls)) is) (λ calls stands. omega (arith, is))
 
     -- the next take gives none
     pub no_more_taken : (calls : List Call) → Stands relay w.net w.streams calls → k < length w.net.arcs → (now' : Relay) → StandsOn now now' t → Gives now t None → RelaysPart w t relay old now' mid lost es
     no_more_taken calls0 stands0 lt now' on gives =
         let none : (calls : List Call) → Stands relay w.net w.streams calls → slice_get (all calls) k ≡ None = λ calls stands. none_handed (slice_get (all calls) k) (given_at None gives calls stands) in
         whole_part (k + 1) now' calls0 stands0 (stands_on now' on) (λ calls stands. take_no_more k (length w.net.arcs) (all calls) (none calls stands) (omega (arith, lt)))
-        (λ calls stands. least_of (length w.net.arcs) (length (all calls)) (k + 1) (let few = few_at k (all calls) (none calls stands) in omega (arith, few)))
+        (λ calls stands. let few = few_at k (all calls) (none calls stands) in omega (arith, few))
 
 -- ---- what is kept
 

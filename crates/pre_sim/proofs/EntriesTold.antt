@@ -17,6 +17,7 @@ use Rattle.pre_sim.specs.Parts.{TellsPart}
 use Rattle.pre_sim.specs.Stands.{has_begun, StillWaiting}
 use Rattle.pre_sim.specs.Sends.{BeforeEntries}
 use Rattle.pre_sim.proofs.Lists.{every-append}
+use Rattle.pre_sim.proofs.Entering.{still}
 
 -- a part that says more
 pub says_more : {T : Type 0} (net : Network) (r : Result T Halt) (old new : List ℕ → History → Type 0) (torn : List ℕ → History → PlainEvent → Type 0) (Whole Whole' : T → History → Type 0) (Front Front' : History → Type 0)
@@ -40,9 +41,6 @@ pub caused_by_memory : {T : Type 0} (r : Result T Halt) (n : ℕ) (d : Halt) →
 caused_by_memory r n d is memory = subst (HasCause n n) (sym (is ∙ ap Err memory)) (record { later = omega arith; stopped = tt })
 
 -- ---- a drop leaves what waits
-
-abbrev still : (ℕ → Bool) → List RingEntry → List ℕ
-still begun xs = map (λ (e : RingEntry). e.frame) (filter (λ (e : RingEntry). e.entered && not (begun e.frame)) xs)
 
 none_waits : (begun : ℕ → Bool) (a p : ℕ) (e : Entry) → still begun (cons_option (entry_of a p false e) []) ≡ []
 none_waits begun a p e = go ((e.arc == a) && (e.prio == p))

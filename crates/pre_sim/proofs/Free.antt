@@ -1,33 +1,15 @@
 -- Whether an arc is occupied, by what the lane says.
-use Rattle.std.proofs.Common.{ℕ, zero, suc, ◌≡◌, ◌==◌, ◌+◌, ◌-◌, ◌*◌, ◌<◌, ◌≤◌, true, false, List, [], ◌∷◌, length, refl, sym, ◌∙◌, ap, arith, subst, Some, None, filter}
+use Rattle.std.proofs.Common.{ℕ, ◌≡◌, ◌+◌, ◌-◌, ◌*◌, ◌<◌, ◌≤◌, length, sym, ◌∙◌, ap, arith, subst, Some, None}
 use Rattle.std.specs.Prelude.{slice_get, MatchOption, ⊤}
 use Rattle.std.specs.List.{AllByRecursion as Every}
-use Rattle.std.proofs.lemmas.Bool.Decides.{nat_tests}
 use Rattle.pre_trace.specs.Scenario.{Scenario, arc}
 use Rattle.pre_trace.specs.History.{History, Begin, Ended}
 use Rattle.pre_trace.specs.Queries.{Begins, Ends, Packet, Packets, packet, end_of, IsUnderWay, Occupied}
 use Rattle.pre_trace.specs.Ordered.{IsOrdered}
+use Rattle.pre_trace.proofs.Free.{first_numbered}
 use Rattle.pre_sim.specs.declared.lanes.Sending.{Sending}
 use Rattle.pre_sim.specs.Stands.{IsSent, IsFreeFrom}
 use Rattle.pre_sim.proofs.Lists.{there, within, every_at, found_at, any_at, past_end, map_at, at_map}
-
-is_eq : (m n : ℕ) → m ≡ n → (m == n) ≡ true
-is_eq m n e = grind (arith, nat_tests)
-
-no_eq : (m n : ℕ) → m < n → (m == n) ≡ false
-no_eq m n lt = grind (arith, nat_tests)
-
--- where ordinals are places, the end with an ordinal stands at that place
-first_numbered : (xs : List Ended) (n i t : ℕ) → t ≡ n + i → ((j : ℕ) (e : Ended) → slice_get xs j ≡ Some e → e.ord ≡ n + j) → slice_get (filter (λ e. e.ord == t) xs) 0 ≡ slice_get xs i
-first_numbered [] n i t is places = refl
-first_numbered (x ∷ xs) n zero t is places =
-    let here : x.ord ≡ n + 0 = places 0 x refl in
-    let test : (x.ord == t) ≡ true = is_eq x.ord t (here ∙ sym is) in
-    rw test refl
-first_numbered (x ∷ xs) n (suc i) t is places =
-    let here : x.ord ≡ n + 0 = places 0 x refl in
-    let test : (x.ord == t) ≡ false = no_eq x.ord t (omega (arith, here, is)) in
-    rw test (first_numbered xs (suc n) i t (omega (arith, is)) (λ j e at. let there' : e.ord ≡ n + suc j = places (suc j) e at in omega (arith, there')))
 
 module _ (w : Scenario) (h : History) (t a : ℕ) (order : IsOrdered w h a) where
   end_at : (i : ℕ) (b : Begin) → slice_get (Begins h a) i ≡ Some b → end_of h a b.ord ≡ slice_get (Ends h a) i

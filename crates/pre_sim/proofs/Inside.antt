@@ -1,10 +1,9 @@
 -- The frames inside the bridge at an arc's end: as mPackets begin and arrive, at the end of a tick, and which of them come out.
-use Rattle.std.proofs.Common.{ℕ, zero, suc, ◌≡◌, ◌≢◌, ◌⊎◌, ◌==◌, ◌&&◌, ◌+◌, ◌<◌, ◌≤◌, nat_le, not, filter, Bool, true, false, List, [], ◌∷◌, ◌++◌, length, take, drop, refl, sym, ◌∙◌, ap, inl, inr, arith, subst, Option, Some, None, map, filter_map}
+use Rattle.std.proofs.Common.{ℕ, zero, suc, ◌≡◌, ◌≢◌, ◌⊎◌, ◌==◌, ◌&&◌, ◌+◌, ◌<◌, ◌≤◌, not, filter, Bool, true, false, List, [], ◌∷◌, ◌++◌, length, take, drop, refl, sym, ◌∙◌, ap, inl, inr, arith, subst, Option, Some, None, map, filter_map}
 use Rattle.std.specs.Prelude.{slice_get, if◌then◌else◌, option_map, option_and_then}
 use Rattle.std.specs.List.{cons_option, AllByRecursion as Every}
 use Rattle.std.proofs.lemmas.Bool.{cases_eq}
-use Rattle.std.proofs.lemmas.Bool.Decides.{nat_tests}
-use Rattle.std.proofs.lemmas.List.{map-append}
+use Rattle.std.proofs.lemmas.List.{map-append, take-append-le, take-append-drop, length-append}
 use Rattle.std.proofs.lemmas.List.Elements.{filter_map-append}
 use Rattle.pre_trace.specs.Scenario.{Scenario, arc, latency}
 use Rattle.pre_trace.specs.History.{History, Begin, Arrive}
@@ -15,19 +14,11 @@ use Rattle.pre_trace.specs.Ordered.{IsOrdered}
 use Rattle.pre_bridge.specs.Inside.{Entry, is_due}
 use Rattle.pre_sim.specs.Stands.{Onward, onward, passes, AreInside}
 use Rattle.pre_sim.specs.Sends.{coming_of}
-use Rattle.pre_sim.proofs.Lists.{there, within, every-append, every_weaker, every_selected, drop-append, at_front}
+use Rattle.pre_sim.proofs.Lists.{there, within, every-append, every_weaker, every_selected, drop-append, get_front, every_drop, drop_one}
 use Rattle.pre_sim.proofs.Arriving.{later_ends}
-
-is_eq : (m n : ℕ) → m ≡ n → (m == n) ≡ true
-is_eq m n e = grind (arith, nat_tests)
-
-not_eq : (m n : ℕ) → m ≢ n → (m == n) ≡ false
-not_eq m n other = grind (arith, nat_tests)
+use Rattle.pre_sim.proofs.NumberTests.{is_eq, not_eq, no_le, is_le}
 
 -- ---- more mPackets begin
-
-get_front : (bs cs : List Begin) (i : ℕ) → i < length bs → slice_get (bs ++ cs) i ≡ slice_get bs i
-get_front bs cs i lt = let b = there bs i lt in at_front bs cs i b.0 b.1 ∙ sym b.1
 
 onward_same : (w : Scenario) (a : ℕ) (bs cs : List Begin) (x : Arrive) → x.ord < length bs → onward w a (bs ++ cs) x ≡ onward w a bs x
 onward_same w a bs cs x lt =
@@ -37,16 +28,6 @@ onward_same w a bs cs x lt =
 all_onward : (w : Scenario) (a : ℕ) (bs cs : List Begin) (xs : List Arrive) → Every (λ (x : Arrive). x.ord < length bs) xs → filter_map (onward w a (bs ++ cs)) xs ≡ filter_map (onward w a bs) xs
 all_onward w a bs cs [] known = refl
 all_onward w a bs cs (x ∷ xs) (here, more) = λ i. cons_option (onward_same w a bs cs x here i) (all_onward w a bs cs xs more i)
-
-every_drop : {X : Type 0} (P : X → Type 0) (n : ℕ) (xs : List X) → Every P xs → Every P (drop n xs)
-every_drop P zero xs all = all
-every_drop P (suc n) [] all = tt
-every_drop P (suc n) (x ∷ xs) (here, more) = every_drop P n xs more
-
-every_take : {X : Type 0} (P : X → Type 0) (n : ℕ) (xs : List X) → Every P xs → Every P (take n xs)
-every_take P zero xs all = tt
-every_take P (suc n) [] all = tt
-every_take P (suc n) (x ∷ xs) (here, more) = (here, every_take P n xs more)
 
 pub begun_inside : (w : Scenario) (a t : ℕ) (bs cs : List Begin) (xs : List Arrive) (items : List Entry) → Every (λ (x : Arrive). x.ord < length bs) xs → AreInside w a bs xs t items → AreInside w a (bs ++ cs) xs t items
 begun_inside w a t bs cs xs items known is = record {
@@ -59,24 +40,14 @@ begun_inside w a t bs cs xs items known is = record {
 
 -- ---- one more arrives
 
-take_front : {X : Type 0} (n : ℕ) (xs ys : List X) → n ≤ length xs → take n (xs ++ ys) ≡ take n xs
-take_front zero xs ys le = refl
-take_front (suc n) [] ys le = absurd (omega (arith, le))
-take_front (suc n) (x ∷ xs) ys le = ap (λ zs. x ∷ zs) (take_front n xs ys (omega (arith, le)))
-
-long_front : {X : Type 0} (n : ℕ) (xs : List X) (x : X) → n ≤ length xs → n ≤ length (xs ++ x ∷ [])
-long_front zero xs x le = omega arith
-long_front (suc n) [] x le = absurd (omega (arith, le))
-long_front (suc n) (y ∷ xs) x le = let more : n ≤ length (xs ++ x ∷ []) = long_front n xs x (omega (arith, le)) in omega (arith, more)
-
 pub arrived_inside : (w : Scenario) (a t : ℕ) (bs : List Begin) (xs : List Arrive) (items : List Entry) (x : Arrive) (more : List Entry) → AreInside w a bs xs t items → t ≤ x.tick + latency w a
     → filter_map (onward w a bs) (x ∷ []) ≡ map passes more → AreInside w a bs (xs ++ x ∷ []) t (items ++ more)
 arrived_inside w a t bs xs items x more is late goes =
     let dropped : drop is.gone (xs ++ x ∷ []) ≡ drop is.gone xs ++ x ∷ [] = drop-append is.gone xs (x ∷ []) is.few in
     record {
       gone = is.gone;
-      few = long_front is.gone xs x is.few;
-      past = subst (Every (λ (y : Arrive). y.tick + latency w a < t)) (sym (take_front is.gone xs (x ∷ []) is.few)) is.past;
+      few = omega (arith, length-append xs (x ∷ []), is.few);
+      past = subst (Every (λ (y : Arrive). y.tick + latency w a < t)) (sym (take-append-le is.gone xs (x ∷ []) is.few)) is.past;
       later = subst (Every (λ (y : Arrive). t ≤ y.tick + latency w a)) (sym dropped) (every-append (λ (y : Arrive). t ≤ y.tick + latency w a) (drop is.gone xs) (x ∷ []) is.later (late, tt));
       are = ap (filter_map (onward w a bs)) dropped ∙ (filter_map-append (onward w a bs) (drop is.gone xs) (x ∷ []) ∙ (ap (λ ys. ys ++ filter_map (onward w a bs) (x ∷ [])) is.are ∙ (ap (λ ys. map passes items ++ ys) goes ∙ sym (map-append passes items more))));
     }
@@ -139,23 +110,17 @@ later_dues w a t bs xs items late are =
     from_map [] all = tt
     from_map (p ∷ ps) (here, more) = (here, from_map ps more)
 
-no_test : (m n : ℕ) → n < m → nat_le m n ≡ false
-no_test m n lt = grind (arith, nat_tests)
-
-a_test : (m n : ℕ) → m ≤ n → nat_le m n ≡ true
-a_test m n le = grind (arith, nat_tests)
-
 -- those that aren't due
 abbrev pub left_of : ℕ → List Entry → List Entry
 left_of t items = filter (λ p. not (is_due t p)) items
 
 none_without : (t : ℕ) (items : List Entry) → Every (λ (p : Entry). t < p.due) items → left_of t items ≡ items
 none_without t [] late = refl
-none_without t (p ∷ ps) (here, more) = rw (no_test p.due t here) (ap (λ xs. p ∷ xs) (none_without t ps more))
+none_without t (p ∷ ps) (here, more) = rw (no_le p.due t here) (ap (λ xs. p ∷ xs) (none_without t ps more))
 
 none_due : (t : ℕ) (items : List Entry) → Every (λ (p : Entry). t < p.due) items → filter (is_due t) items ≡ []
 none_due t [] late = refl
-none_due t (p ∷ ps) (here, more) = rw (no_test p.due t here) (none_due t ps more)
+none_due t (p ∷ ps) (here, more) = rw (no_le p.due t here) (none_due t ps more)
 
 -- the first of these is an arrival whose latency is over at the tick, or none is
 pub record FirstDue (w : Scenario) (a t : ℕ) (bs : List Begin) (xs : List Arrive) (items : List Entry) (x : Arrive) (rest : List Arrive) : Type 0 where
@@ -173,15 +138,6 @@ first_due w a t bs (x ∷ xs) items (first, rise) (here, more) = elim (cases_eq 
 
 -- ---- the end of the tick
 
-drop_one : {X : Type 0} (n : ℕ) (xs : List X) (x : X) (rest : List X) → drop n xs ≡ x ∷ rest → (drop (n + 1) xs ≡ rest) × (take (n + 1) xs ≡ take n xs ++ x ∷ []) × (n + 1 ≤ length xs)
-drop_one {X} n xs x rest is = let same : suc n ≡ n + 1 = omega arith in subst (λ m. (drop m xs ≡ rest) × (take m xs ≡ take n xs ++ x ∷ []) × (m ≤ length xs)) same (go n xs is)
-  where
-    go : (n : ℕ) (xs : List X) → drop n xs ≡ x ∷ rest → (drop (suc n) xs ≡ rest) × (take (suc n) xs ≡ take n xs ++ x ∷ []) × (suc n ≤ length xs)
-    go zero [] is = absurd (cc is)
-    go zero (y ∷ xs) is = (cc is, ap (λ z. z ∷ []) (cc is), omega arith)
-    go (suc n) [] is = absurd (cc is)
-    go (suc n) (y ∷ xs) is = let r = go n xs is in (r.0, ap (λ zs. y ∷ zs) r.1, omega (arith, r.2))
-
 -- the first one is gone, where its arrival goes on
 one_gone : (w : Scenario) (a t : ℕ) (bs : List Begin) (x : Arrive) (rest : List Arrive) (items : List Entry) → x.tick + latency w a ≡ t → Every (λ (y : Arrive). t < y.tick + latency w a) rest
     → filter_map (onward w a bs) (x ∷ rest) ≡ map passes items → filter_map (onward w a bs) rest ≡ map passes (left_of t items)
@@ -197,7 +153,7 @@ one_gone w a t bs x rest items due late are = go (onward w a bs x) refl are
             let first : o ≡ passes p = cc are in
             let now : p.due ≡ t = ap (λ (z : Onward). z.due) (sym first) ∙ (onward_due w a bs x o is ∙ due) in
             let others : filter_map (onward w a bs) rest ≡ map passes ps = cc are in
-            rw (a_test p.due t (omega (arith, now))) (others ∙ ap (map passes) (sym (none_without t ps (later_dues w a t bs rest ps late others))))
+            rw (is_le p.due t (omega (arith, now))) (others ∙ ap (map passes) (sym (none_without t ps (later_dues w a t bs rest ps late others))))
 
 pub settled_inside : (w : Scenario) (a t : ℕ) (bs : List Begin) (xs : List Arrive) (items : List Entry) → AreRising xs → AreInside w a bs xs t items → AreInside w a bs xs (t + 1) (left_of t items)
 settled_inside w a t bs xs items rise is = elim (first_due w a t bs (drop is.gone xs) items (rising_drop is.gone xs rise) is.later) [
@@ -249,11 +205,6 @@ none_relayed : (w : Scenario) (h : History) (t a : ℕ) (xs : List Arrive) → E
 none_relayed w h t a [] other = refl
 none_relayed w h t a (x ∷ xs) (here, more) = rw (relayed_other w h t a x here) (none_relayed w h t a xs more)
 
-take_drop : {X : Type 0} (n : ℕ) (xs : List X) → xs ≡ take n xs ++ drop n xs
-take_drop zero xs = refl
-take_drop (suc n) [] = refl
-take_drop (suc n) (x ∷ xs) = ap (λ zs. x ∷ zs) (take_drop n xs)
-
 one_relayed : (w : Scenario) (h : History) (t a : ℕ) (x : Arrive) (rest : List Arrive) (items : List Entry) → x.tick + latency w a ≡ t → Every (λ (y : Arrive). t < y.tick + latency w a) rest
     → filter_map (onward w a (Begins h a)) (x ∷ rest) ≡ map passes items → filter_map (relayed w h t a) (x ∷ rest) ≡ map coming_of (filter (is_due t) items)
 one_relayed w h t a x rest items due late are =
@@ -271,13 +222,13 @@ one_relayed w h t a x rest items due late are =
             let now : p.due ≡ t = ap (λ (z : Onward). z.due) (sym first) ∙ (onward_due w a (Begins h a) x o is ∙ due) in
             let others : filter_map (onward w a (Begins h a)) rest ≡ map passes ps = cc are in
             let none : filter (is_due t) ps ≡ [] = none_due t ps (later_dues w a t (Begins h a) rest ps late others) in
-            rw (a_test p.due t (omega (arith, now))) (ap (λ z. coming z ∷ []) first ∙ ap (λ xs. coming_of p ∷ map coming_of xs) (sym none))
+            rw (is_le p.due t (omega (arith, now))) (ap (λ z. coming z ∷ []) first ∙ ap (λ xs. coming_of p ∷ map coming_of xs) (sym none))
 
 -- the frames that an arc's bridge hands on at the tick
 pub relayed_are : (w : Scenario) (h : History) (t a : ℕ) (items : List Entry) → AreRising (Arrivals h a) → AreInside w a (Begins h a) (Arrivals h a) t items → filter_map (relayed w h t a) (Arrivals h a) ≡ map coming_of (filter (is_due t) items)
 relayed_are w h t a items rise is =
     let before = none_relayed w h t a (take is.gone (Arrivals h a)) (every_weaker (λ (y : Arrive). y.tick + latency w a < t) (λ (y : Arrive). y.tick + latency w a ≢ t) (λ y lt e. omega (arith, lt, e)) (take is.gone (Arrivals h a)) is.past) in
-    ap (filter_map (relayed w h t a)) (take_drop is.gone (Arrivals h a))
+    ap (filter_map (relayed w h t a)) (sym (take-append-drop is.gone (Arrivals h a)))
     ∙ (filter_map-append (relayed w h t a) (take is.gone (Arrivals h a)) (drop is.gone (Arrivals h a))
     ∙ (ap (λ cs. cs ++ filter_map (relayed w h t a) (drop is.gone (Arrivals h a))) before
     ∙ elim (first_due w a t (Begins h a) (drop is.gone (Arrivals h a)) items (rising_drop is.gone (Arrivals h a) rise) is.later) [

@@ -20,8 +20,9 @@ use Rattle.pre_sim.specs.Spelled.{LeavesFirst}
 use Rattle.pre_sim.specs.Arriving.{IsStored, in_slot}
 use Rattle.pre_sim.specs.Keeps.{Store, IsFrameOf, GoesOver, Waits, IsUnderWay, IsOnWire, IsKeptInside, LaneKeeps, Keeps, KeepsOn, among, under_way, of_lane, uses}
 use Rattle.pre_sim.specs.Sends.{KeepsCome}
-use Rattle.pre_sim.proofs.Lists.{every-append, every_at, headed}
-use Rattle.pre_sim.proofs.Counts.{sum-set, sum-one, sum-none, set_here, set_elsewhere, set_same, set_cases, among-here, among-other, among-cons, among-append, first_elsewhere, each_elsewhere, none_among, among_ring, none_among_rings, among_with, rings_with, same_number, other_number}
+use Rattle.pre_sim.proofs.Lists.{every-append, every_at, headed, sum-set, sum-one, sum-none, set_here, set_elsewhere, set_same, set_cases}
+use Rattle.pre_sim.proofs.Counts.{among-here, among-other, among-cons, among-append, first_elsewhere, each_elsewhere, none_among, among_ring, none_among_rings, among_with, rings_with}
+use Rattle.pre_sim.proofs.NumberTests.{same_number, other_number}
 
 -- the frames of those inside bridges
 abbrev frames_of : List Entry → List FrameRef

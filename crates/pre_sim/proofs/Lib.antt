@@ -1,6 +1,7 @@
 pub mod PairRuns
 pub mod Routes
 pub mod Bridge
+pub mod NumberTests
 pub mod Lists
 pub mod Ending
 pub mod Moments

@@ -1,14 +1,12 @@
 -- One moment more.
-use Rattle.std.proofs.Common.{ℕ, suc, ◌≡◌, ◌≤◌, ◌<◌, ◌+◌, ◌*◌, ◌/◌, ◌%◌, ◌==◌, ◌&&◌, nat_le, Bool, true, false, [], ◌++◌, length, refl, sym, ◌∙◌, ap, inl, inr, arith, subst, Some, None}
+use Rattle.std.proofs.Common.{ℕ, suc, ◌≡◌, ◌≤◌, ◌<◌, ◌+◌, ◌*◌, ◌/◌, ◌%◌, ◌==◌, ◌&&◌, Bool, true, false, [], ◌++◌, length, refl, sym, ◌∙◌, ap, arith, subst, Some, None}
 use Rattle.std.specs.Prelude.{if◌then◌else◌}
 use Rattle.std.specs.Option.{option_map_or}
 use Rattle.std.specs.List.{AllByRecursion as Every}
 use Rattle.std.proofs.lemmas.Nat.{div-mul-add}
 use Rattle.std.proofs.Math.Arith.{digits_mod}
 use Rattle.std.proofs.Math.Nat.{mul-le-mul_right}
-use Rattle.std.proofs.lemmas.Bool.{cases_lt}
 use Rattle.std.proofs.lemmas.List.{append-nil}
-use Rattle.std.proofs.lemmas.Bool.Decides.{nat_tests}
 use Rattle.pre_trace.specs.Scenario.{Scenario}
 use Rattle.pre_trace.specs.History.{PlainEvent, History, Begin, Ended, Arrive}
 use Rattle.pre_trace.specs.Moments.{Phase, Moment, moments, phase_at, moment_at}
@@ -19,38 +17,16 @@ use Rattle.pre_trace.specs.Rules.{Happens, HappensIn}
 use Rattle.pre_trace.specs.Legal.{LegalUpTo}
 use Rattle.pre_sim.specs.Parts.{LegalAt, IsFront}
 use Rattle.pre_sim.proofs.Lists.{every_selected}
+use Rattle.pre_sim.proofs.NumberTests.{same_number}
+-- the places of the phases, and what the numbers of moments say of their ticks
+pub use Rattle.pre_trace.proofs.Moments.{ends_place, arrivals_place, expiries_place, starts_place}
+pub use Rattle.pre_trace.proofs.Turns.{tick_lt, tick_le}
 
 moment_in : (arcs t k : ℕ) → k < moments arcs → moment_at arcs (number arcs t k) ≡ record { tick = t; phase = phase_at arcs k }
 moment_in arcs t k within =
     let tick : (t * moments arcs + k) / moments arcs ≡ t = div-mul-add t (moments arcs) k within in
     let rest : (t * moments arcs + k) % moments arcs ≡ k = digits_mod t within in
     λ i. record { tick = tick i; phase = phase_at arcs (rest i) }
-
-pub test_eq : (m n : ℕ) → m ≡ n → (m == n) ≡ true
-test_eq m n e = grind (arith, nat_tests)
-
-pub no_eq : (m n : ℕ) → n < m → (m == n) ≡ false
-no_eq m n lt = grind (arith, nat_tests)
-
-pub no_le : (m n : ℕ) → n < m → nat_le m n ≡ false
-no_le m n lt = grind (arith, nat_tests)
-
-is_le : (m n : ℕ) → m ≤ n → nat_le m n ≡ true
-is_le m n le = grind (arith, nat_tests)
-
-pub ends_place : (arcs a : ℕ) → a < arcs → phase_at arcs (1 + a) ≡ Phase.ends a
-ends_place arcs a lt = rw (no_eq (1 + a) 0 (omega arith), is_le (1 + a) arcs (omega (arith, lt))) (ap Phase.ends (omega arith))
-
-pub arrivals_place : (arcs a : ℕ) → a < arcs → phase_at arcs (1 + arcs + a) ≡ Phase.arrivals a
-arrivals_place arcs a lt = rw (no_eq (1 + arcs + a) 0 (omega arith), no_le (1 + arcs + a) arcs (omega arith), is_le (1 + arcs + a) (2 * arcs) (omega (arith, lt))) (ap Phase.arrivals (omega arith))
-
-pub expiries_place : (arcs a : ℕ) → a < arcs → phase_at arcs (1 + 2 * arcs + a) ≡ Phase.expiries a
-expiries_place arcs a lt =
-    rw (no_eq (1 + 2 * arcs + a) 0 (omega arith), no_le (1 + 2 * arcs + a) arcs (omega (arith, lt)), no_le (1 + 2 * arcs + a) (2 * arcs) (omega arith), is_le (1 + 2 * arcs + a) (3 * arcs) (omega (arith, lt))) (ap Phase.expiries (omega arith))
-
-pub starts_place : (arcs a : ℕ) → phase_at arcs (2 + 3 * arcs + a) ≡ Phase.starts a
-starts_place arcs a =
-    rw (no_eq (2 + 3 * arcs + a) 0 (omega arith), no_le (2 + 3 * arcs + a) arcs (omega arith), no_le (2 + 3 * arcs + a) (2 * arcs) (omega arith), no_le (2 + 3 * arcs + a) (3 * arcs) (omega arith), no_eq (2 + 3 * arcs + a) (3 * arcs + 1) (omega arith)) (ap Phase.starts (omega arith))
 
 -- what happens at place k carries a legal history to the next place
 pub one_more : (w : Scenario) (t k : ℕ) (p : Phase) (h es : History) → k < moments (length w.net.arcs) → phase_at (length w.net.arcs) k ≡ p → HappensIn w h t p es → LegalAt w t k h → LegalAt w t (k + 1) (h ++ es)
@@ -68,19 +44,13 @@ whole_front w n h legal = (n, [], subst (LegalUpTo w n) (sym (append-nil h)) leg
 
 -- ---- what stands on an arc
 
-pub tick_lt : (size s t k : ℕ) → s * size + k < t * size + k → s < t
-tick_lt size s t k lt = elim (cases_lt s t) [
-  | inl done ↦ done
-  | inr more ↦ let reach : t * size ≤ s * size = mul-le-mul_right size more in absurd (omega (arith, reach, lt))
-]
-
 end_before : (arcs t a : ℕ) (e : PlainEvent) (b : Ended) → IsBefore arcs (number arcs t (1 + a)) e → ended_on a e ≡ Some b → b.tick < t
 end_before arcs t a (PlainEvent.ended c) b (m, lt, (c_lt, at)) is = go (c.arc == a) refl is
   where
     go : (same : Bool) → (c.arc == a) ≡ same → (if same then Some c else None) ≡ Some b → b.tick < t
     go false off is = absurd (cc is)
     go true on is =
-        let arc_is : c.arc ≡ a = grind (arith, nat_tests) in
+        let arc_is : c.arc ≡ a = same_number c.arc a on in
         let same : c ≡ b = cc is in
         subst (λ (x : Ended). x.tick < t) same (tick_lt (moments arcs) c.tick t (1 + a) (omega (arith, at, lt, arc_is)))
 end_before arcs t a e b before is = absurd (cc is)
@@ -94,7 +64,7 @@ arrival_before arcs t a a_lt (PlainEvent.arrive c) b (m, lt, (c_lt, at)) is = go
     go : (same : Bool) → (c.arc == a) ≡ same → (if same then Some c else None) ≡ Some b → b.tick < t
     go false off is = absurd (cc is)
     go true on is =
-        let arc_is : c.arc ≡ a = grind (arith, nat_tests) in
+        let arc_is : c.arc ≡ a = same_number c.arc a on in
         let same : c ≡ b = cc is in
         subst (λ (x : Arrive). x.tick < t) same (tick_lt (moments arcs) c.tick t (1 + arcs + a) (omega (arith, at, lt, arc_is)))
 arrival_before arcs t a a_lt e b before is = absurd (cc is)
@@ -110,18 +80,12 @@ begin_arc : (arcs n a : ℕ) (e : PlainEvent) (b : Begin) → IsBefore arcs n e 
 begin_arc arcs n a (PlainEvent.begin c) b u is = go (c.arc == a) refl is
   where
     go : (same : Bool) → (c.arc == a) ≡ same → (if same then Some c else None) ≡ Some b → b.arc ≡ a
-    go true on at = let e : c ≡ b = cc at in let on' : c.arc ≡ a = grind (arith, nat_tests) in ap (λ (x : Begin). x.arc) (sym e) ∙ on'
+    go true on at = let e : c ≡ b = cc at in let on' : c.arc ≡ a = same_number c.arc a on in ap (λ (x : Begin). x.arc) (sym e) ∙ on'
     go false on at = absurd (cc at)
 begin_arc arcs n a e b u is = absurd (cc is)
 
 pub begins_on : (arcs n a : ℕ) (h : History) → AllBefore arcs n h → Every (λ (b : Begin). b.arc ≡ a) (Begins h a)
 begins_on arcs n a h before = every_selected (begin_on a) (IsBefore arcs n) (λ b. b.arc ≡ a) (begin_arc arcs n a) h before
-
-tick_le : (size s t j k : ℕ) → k < size → s * size + j ≤ t * size + k → s ≤ t
-tick_le size s t j k lt le = elim (cases_lt t s) [
-  | inr done ↦ done
-  | inl more ↦ let reach : (t + 1) * size ≤ s * size = mul-le-mul_right size (omega (arith, more)) in absurd (omega (arith, reach, le, lt))
-]
 
 -- before the starts of an arc all its mPackets began at earlier ticks
 begin_before : (arcs t a : ℕ) (e : PlainEvent) (b : Begin) → IsBefore arcs (number arcs t (2 + 3 * arcs + a)) e → begin_on a e ≡ Some b → b.tick < t
@@ -130,7 +94,7 @@ begin_before arcs t a (PlainEvent.begin c) b (m, lt, (c_lt, at)) is = go (c.arc 
     go : (same : Bool) → (c.arc == a) ≡ same → (if same then Some c else None) ≡ Some b → b.tick < t
     go false off is = absurd (cc is)
     go true on is =
-        let arc_is : c.arc ≡ a = grind (arith, nat_tests) in
+        let arc_is : c.arc ≡ a = same_number c.arc a on in
         let same : c ≡ b = cc is in
         subst (λ (x : Begin). x.tick < t) same (tick_lt (moments arcs) c.tick t (2 + 3 * arcs + a) (omega (arith, at, lt, arc_is)))
 begin_before arcs t a e b before is = absurd (cc is)

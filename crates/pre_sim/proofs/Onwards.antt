@@ -1,9 +1,9 @@
 -- Where a frame goes on from an arc of its route.
-use Rattle.std.proofs.Common.{ℕ, zero, suc, ◌≡◌, ◌≢◌, ◌==◌, ◌+◌, ◌<◌, true, false, List, [], ◌∷◌, length, map, refl, sym, ◌∙◌, ap, inl, inr, arith, Option, Some}
+use Rattle.std.proofs.Common.{ℕ, zero, suc, ◌≡◌, ◌==◌, ◌+◌, ◌<◌, true, false, List, [], ◌∷◌, length, map, refl, sym, ◌∙◌, ap, inl, inr, arith, Option, Some}
 use Rattle.std.specs.Prelude.{slice_get, option_map, All, Contains}
 use Rattle.std.specs.Option.{option_map_or}
 use Rattle.std.proofs.lemmas.Bool.{cases_eq}
-use Rattle.std.proofs.lemmas.Bool.Decides.{nat_tests}
+use Rattle.std.proofs.lemmas.Option.{slice_get-map}
 use Rattle.pre_base.specs.declared.numbers.ArcId.{ArcId}
 use Rattle.pre_topo.specs.declared.arcs.Arc.{Arc}
 use Rattle.pre_topo.specs.Arcs.{latency_at}
@@ -14,16 +14,7 @@ use Rattle.pre_trace.specs.Comings.{after, hops, next_arc}
 use Rattle.pre_sim.specs.Reach.{CanRun}
 use Rattle.pre_sim.proofs.Lists.{within, read_at, at_map, find_at, map_at}
 use Rattle.pre_sim.proofs.Direct.{known_row}
-
-is_eq : (m n : ℕ) → m ≡ n → (m == n) ≡ true
-is_eq m n e = grind (arith, nat_tests)
-
-not_eq : (m n : ℕ) → m ≢ n → (m == n) ≡ false
-not_eq m n other = grind (arith, nat_tests)
-
-first_of : (ys : List ArcId) → slice_get (map (λ (y : ArcId). y.0) ys) 0 ≡ option_map (λ (y : ArcId). y.0) (slice_get ys 0)
-first_of [] = refl
-first_of (y ∷ ys) = refl
+use Rattle.pre_sim.proofs.NumberTests.{is_eq, not_eq}
 
 -- the arc behind the first place of an arc, where the same stands behind each of its places
 behind : (a : ℕ) (o : Option ArcId) (xs : List ArcId) (i : ℕ) (x : ArcId) → ((j : ℕ) (y : ArcId) → slice_get xs j ≡ Some y → y.0 ≡ a → o ≡ slice_get xs (suc j)) → slice_get xs i ≡ Some x → x.0 ≡ a
@@ -33,9 +24,9 @@ behind a o (y ∷ xs) zero x says at is =
     let first : y ≡ x = cc at in
     let same : y.0 ≡ a = ap (λ (z : ArcId). z.0) first ∙ is in
     let test : (y.0 == a) ≡ true = is_eq y.0 a same in
-    rw test (ap (option_map (λ (y : ArcId). y.0)) (says 0 y refl same) ∙ sym (first_of xs))
+    rw test (ap (option_map (λ (y : ArcId). y.0)) (says 0 y refl same) ∙ sym (slice_get-map (λ (y : ArcId). y.0) xs 0))
 behind a o (y ∷ xs) (suc i) x says at is = elim (cases_eq y.0 a) [
-  | inl same ↦ let test : (y.0 == a) ≡ true = is_eq y.0 a same in rw test (ap (option_map (λ (y : ArcId). y.0)) (says 0 y refl same) ∙ sym (first_of xs))
+  | inl same ↦ let test : (y.0 == a) ≡ true = is_eq y.0 a same in rw test (ap (option_map (λ (y : ArcId). y.0)) (says 0 y refl same) ∙ sym (slice_get-map (λ (y : ArcId). y.0) xs 0))
   | inr other ↦ let test : (y.0 == a) ≡ false = not_eq y.0 a other in rw test (behind a o xs i x (λ j z at' is'. says (suc j) z at' is') at is)
 ]
 

@@ -1,11 +1,11 @@
 -- What an arc's events leave as it is, and the parts of several arcs in a row.
-use Rattle.std.proofs.Common.{ℕ, zero, suc, ◌≡◌, ◌≢◌, ◌==◌, ◌+◌, true, false, List, [], ◌∷◌, ◌++◌, length, refl, sym, ◌∙◌, ap, inl, inr, arith, subst, Option, Some, None, filter_map, append_assoc}
+use Rattle.std.proofs.Common.{ℕ, ◌≡◌, ◌≢◌, ◌==◌, ◌+◌, false, List, [], ◌∷◌, ◌++◌, length, refl, sym, ◌∙◌, ap, inl, inr, arith, subst, Option, Some, None, filter_map, append_assoc}
 use Rattle.std.specs.Prelude.{slice_get, set}
 use Rattle.std.specs.List.{AllByRecursion as Every}
 use Rattle.std.proofs.lemmas.Bool.{cases_eq}
 use Rattle.std.proofs.lemmas.List.{append-nil, length-append}
 use Rattle.std.proofs.lemmas.List.Elements.{filter_map-append, filter-append}
-use Rattle.std.proofs.lemmas.Bool.Decides.{nat_tests}
+use Rattle.std.proofs.Math.Nat.{add-zero}
 use Rattle.pre_trace.specs.Scenario.{Scenario}
 use Rattle.pre_trace.specs.History.{PlainEvent, History}
 use Rattle.pre_trace.specs.Selected.{begin_on, ended_on, arrive_on, entry_on, delivery_of, is_dropped}
@@ -15,15 +15,12 @@ use Rattle.pre_sim.specs.declared.lanes.Lane.{Lane}
 use Rattle.pre_sim.specs.Keeps.{Store, Keeps}
 use Rattle.pre_sim.specs.Parts.{LegalAt, IsFront, IsOn, LanePart, LaneFront, LanesPart, LanesFront}
 use Rattle.pre_sim.specs.Stands.{StillWaiting, LaneStands, LanesStand}
-use Rattle.pre_sim.proofs.Lists.{every_weaker, count_by-append}
+use Rattle.pre_sim.proofs.Lists.{every_weaker, count_by-append, none_selected, set_found, set_elsewhere}
 use Rattle.pre_sim.proofs.EndParts.{moved, still_same, inside_same}
-
-none_selected : {X Y : Type 0} (sel : X → Option Y) (xs : List X) → Every (λ x. sel x ≡ None) xs → filter_map sel xs ≡ []
-none_selected sel [] p = refl
-none_selected sel (x ∷ xs) (here, more) = rw here (none_selected sel xs more)
+use Rattle.pre_sim.proofs.NumberTests.{is_eq, not_eq, adds}
 
 other_arc : (x a b : ℕ) → x ≡ a → b ≢ a → (x == b) ≡ false
-other_arc x a b is other = let no' : x ≢ b = λ e. other (sym e ∙ is) in grind (arith, nat_tests)
+other_arc x a b is other = not_eq x b (λ e. other (sym e ∙ is))
 
 module _ (a b : ℕ) (other : b ≢ a) where
   not_begin : (e : PlainEvent) → IsOn a e → begin_on b e ≡ None
@@ -93,27 +90,12 @@ module _ (a b : ℕ) (other : b ≢ a) where
 
 -- ---- one arc after another
 
-pub set_here : (xs : List Lane) (n : ℕ) (y z : Lane) → slice_get (set xs n y) n ≡ Some z → y ≡ z
-set_here [] n y z at = absurd (cc at)
-set_here (x ∷ xs) zero y z at = cc at
-set_here (x ∷ xs) (suc n) y z at = set_here xs n y z at
-
-pub set_there : (xs : List Lane) (n m : ℕ) (y z : Lane) → m ≢ n → slice_get (set xs n y) m ≡ Some z → slice_get xs m ≡ Some z
-set_there [] n m y z other at = at
-set_there (x ∷ xs) zero zero y z other at = absurd (other refl)
-set_there (x ∷ xs) zero (suc m) y z other at = at
-set_there (x ∷ xs) (suc n) zero y z other at = at
-set_there (x ∷ xs) (suc n) (suc m) y z other at = set_there xs n m y z (λ e. other (ap suc e)) at
-
 of_arc-append : (a : ℕ) (xs ys : List Entry) → of_arc a (xs ++ ys) ≡ of_arc a xs ++ of_arc a ys
 of_arc-append a xs ys = filter-append (λ (e : Entry). e.arc == a) xs ys
 
 all_of : (n : ℕ) (ys : List Entry) → Every (λ (e : Entry). e.arc ≡ n) ys → of_arc n ys ≡ ys
 all_of n [] all = refl
-all_of n (y ∷ ys) (here, more) = rw (is_arc y.arc n here) (ap (λ zs. y ∷ zs) (all_of n ys more))
-  where
-    is_arc : (x m : ℕ) → x ≡ m → (x == m) ≡ true
-    is_arc x m is = grind (arith, nat_tests)
+all_of n (y ∷ ys) (here, more) = rw (is_eq y.arc n here) (ap (λ zs. y ∷ zs) (all_of n ys more))
 
 none_of : (a n : ℕ) → a ≢ n → (ys : List Entry) → Every (λ (e : Entry). e.arc ≡ n) ys → of_arc a ys ≡ []
 none_of a n other [] all = refl
@@ -123,8 +105,8 @@ module _ (w : Scenario) (t k n m d due : ℕ) (store store' store'' : Store) (ol
     (so_far : LanesPart w t k n m due store store' old mid more es) where
   pub lane_more : LanePart w t (k + n) n d due store' store'' lane new next fs → LanesPart w t k (n + 1) (m + d) due store store'' old (set mid n new) (more ++ next) (es ++ fs)
   lane_more part = record {
-    deliveries = ap length (filter_map-append delivery_of es fs) ∙ (length-append (Deliveries es) (Deliveries fs) ∙ cong_plus so_far.deliveries part.deliveries);
-    drops = count_by-append is_dropped es fs ∙ cong_plus so_far.drops part.drops;
+    deliveries = ap length (filter_map-append delivery_of es fs) ∙ (length-append (Deliveries es) (Deliveries fs) ∙ adds so_far.deliveries part.deliveries);
+    drops = count_by-append is_dropped es fs ∙ adds so_far.drops part.drops;
     legal = λ h entries legal stand.
         let before = so_far.legal h entries legal stand in
         let inside = entries ++ more in
@@ -132,11 +114,11 @@ module _ (w : Scenario) (t k n m d due : ℕ) (store store' store'' : Store) (ol
         let legal' : LegalAt w t (k + (n + 1)) ((h ++ es) ++ fs) = subst (λ m. LegalAt w t m ((h ++ es) ++ fs)) (same_place k n) now.0 in
         let mine : of_arc n inside ++ next ≡ of_arc n (inside ++ next) = ap (λ xs. of_arc n inside ++ xs) (sym (all_of n next part.here)) ∙ sym (of_arc-append n inside next) in
         let each : LanesStand w ((h ++ es) ++ fs) due (set mid n new) (inside ++ next) = λ a l at. elim (cases_eq a n) [
-          | inl is ↦ subst (λ (x : Lane). LaneStands w ((h ++ es) ++ fs) a due x (of_arc a (inside ++ next))) (set_here mid n new l (subst (λ m. slice_get (set mid n new) m ≡ Some l) is at))
+          | inl is ↦ subst (λ (x : Lane). LaneStands w ((h ++ es) ++ fs) a due x (of_arc a (inside ++ next))) (set_found mid n new l (subst (λ m. slice_get (set mid n new) m ≡ Some l) is at))
               (subst (λ m. LaneStands w ((h ++ es) ++ fs) m due new (of_arc m (inside ++ next))) (sym is) (subst (LaneStands w ((h ++ es) ++ fs) n due new) mine now.1))
           | inr other ↦
               let others : of_arc a inside ≡ of_arc a (inside ++ next) = sym (of_arc-append a inside next ∙ (ap (λ xs. of_arc a inside ++ xs) (none_of a n other next part.here) ∙ append-nil (of_arc a inside))) in
-              subst (LaneStands w ((h ++ es) ++ fs) a due l) others (other_stands n a other w (h ++ es) fs due l (of_arc a inside) part.arc (before.1 a l (set_there mid n a new l other at)))
+              subst (LaneStands w ((h ++ es) ++ fs) a due l) others (other_stands n a other w (h ++ es) fs due l (of_arc a inside) part.arc (before.1 a l (sym (set_elsewhere mid n a new other) ∙ at)))
         ] in
         subst (λ g. LegalAt w t (k + (n + 1)) g × LanesStand w g due (set mid n new) (entries ++ (more ++ next))) (append_assoc h es fs)
         (subst (λ xs. LegalAt w t (k + (n + 1)) ((h ++ es) ++ fs) × LanesStand w ((h ++ es) ++ fs) due (set mid n new) xs) (append_assoc entries more next) (legal', each));
@@ -145,9 +127,6 @@ module _ (w : Scenario) (t k n m d due : ℕ) (store store' store'' : Store) (ol
     where
       same_place : (x y : ℕ) → x + y + 1 ≡ x + (y + 1)
       same_place x y = omega arith
-
-      cong_plus : {a b c e : ℕ} → a ≡ b → c ≡ e → a + c ≡ b + e
-      cong_plus p q = omega (arith, p, q)
 
   pub front_more : LaneFront w t (k + n) n due lane fs → LanesFront w t k due old (es ++ fs)
   front_more front h entries legal stand =
@@ -161,9 +140,6 @@ lanes_begin w t k due store lanes = record {
   drops = refl;
   legal = λ h entries legal stand.
       subst (λ xs. LegalAt w t (k + 0) (h ++ []) × LanesStand w (h ++ []) due lanes xs) (sym (append-nil entries))
-      (subst (λ g. LegalAt w t (k + 0) g × LanesStand w g due lanes entries) (sym (append-nil h)) (subst (λ m. LegalAt w t m h) (plus_none k) legal, stand));
+      (subst (λ g. LegalAt w t (k + 0) g × LanesStand w g due lanes entries) (sym (append-nil h)) (subst (λ m. LegalAt w t m h) (sym (add-zero k)) legal, stand));
   keeps = λ entries kept. subst (λ xs. Keeps w store lanes xs []) (sym (append-nil entries)) kept;
 }
-  where
-    plus_none : (x : ℕ) → x ≡ x + 0
-    plus_none x = omega arith

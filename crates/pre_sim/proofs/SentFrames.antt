@@ -1,19 +1,17 @@
 -- The octets of a send's frame, the frame in a slot, and the first arc of its route.
-use Rattle.std.proofs.Common.{ℕ, suc, ◌≡◌, ◌-◌, ◌<◌, ◌≤◌, List, [], ◌∷◌, ◌++◌, length, drop, take, sym, ◌∙◌, ap, arith, subst, Some, None, map, unwrap_or}
+use Rattle.std.proofs.Common.{ℕ, suc, ◌≡◌, ◌-◌, ◌<◌, ◌≤◌, List, [], ◌∷◌, ◌++◌, length, drop, take, sym, ◌∙◌, ap, arith, subst, Some, None}
 use Rattle.std.specs.Prelude.{slice_get, slice_index_or}
 use Rattle.pre_base.specs.declared.numbers.NodeId.{NodeId}
-use Rattle.pre_base.specs.declared.numbers.ArcId.{ArcId}
 use Rattle.pre_script.specs.declared.scripts.SendLine.{SendLine}
 use Rattle.pre_frame.specs.Layout.{frame_of}
 use Rattle.pre_streams.specs.declared.rows.Row.{Row}
 use Rattle.pre_trace.specs.Scenario.{Scenario, last, row, send, no_send, source, destination, number_of_node, FrameOf}
-use Rattle.pre_trace.specs.Comings.{first_arc}
 use Rattle.std.proofs.lemmas.Option.{slice_get-get_or}
+use Rattle.std.proofs.lemmas.List.{take_at}
 use Rattle.pre_trace.proofs.Undamaged.{length-FrameOf}
 use Rattle.pre_sim.specs.Keeps.{Store, IsFrameOf}
 use Rattle.pre_sim.specs.Arriving.{IsStored}
-use Rattle.pre_sim.proofs.Lists.{written_back}
-use Rattle.pre_sim.proofs.Counts.{set_here}
+use Rattle.pre_sim.proofs.Lists.{set_here}
 
 -- the last element is the one at the last place
 pub last_at : {X : Type 0} (xs : List X) (x : X) → slice_get xs (length xs - 1) ≡ Some x → last xs ≡ Some x
@@ -59,7 +57,7 @@ octets_put w k r nodes d e prio sends into new size is same long of_row known it
 pub octets_taken : (w : Scenario) (k size : ℕ) (into all : List ℕ) → size ≡ (send w k).send.size → 64 ≤ size → all ≡ FrameOf w k ++ drop size into → take size all ≡ FrameOf w k
 octets_taken w k size into all is long put =
     let its_length : length (FrameOf w k) ≡ size = length-FrameOf w k (omega (arith, is, long)) ∙ sym is in
-    ap (take size) put ∙ written_back size (FrameOf w k) (drop size into) its_length
+    ap (take size) put ∙ take_at (FrameOf w k) (drop size into) size its_length
 
 -- in a slot, they are the frame of the send
 pub frame_is : (w : Scenario) (k size prio slot : ℕ) (r : Row) (store store' : Store) → k < length w.script.sends → r ≡ row w k → prio ≡ r.prio → size ≡ (send w k).send.size → 64 ≤ size → IsStored store (FrameOf w k) slot store'
@@ -72,11 +70,3 @@ frame_is w k size prio slot r store store' known is of_row its_size long stored 
   long = long;
   held = ap (λ (s : Store). slice_get s slot) stored.1 ∙ set_here store slot None (Some (FrameOf w k)) stored.0;
 }
-
--- and the first arc of its route
-pub first_arc_is : (w : Scenario) (k : ℕ) (r : Row) (a : ArcId) → r ≡ row w k → slice_get r.arcs 0 ≡ Some a → a.0 ≡ first_arc w k
-first_arc_is w k r a is at = sym (go (row w k).arcs (subst (λ (x : Row). slice_get x.arcs 0 ≡ Some a) is at))
-  where
-    go : (xs : List ArcId) → slice_get xs 0 ≡ Some a → unwrap_or (slice_get (map (λ (x : ArcId). x.0) xs) 0) 0 ≡ a.0
-    go [] at = absurd (cc at)
-    go (x ∷ xs) at = let e : x ≡ a = cc at in ap (λ (y : ArcId). y.0) e

@@ -1,5 +1,5 @@
 -- The end of a tick's entries: what bridges handed on has left them.
-use Rattle.std.proofs.Common.{ℕ, zero, suc, ◌≡◌, ◌==◌, ◌∙◌, ◌+◌, ◌-◌, ◌<◌, ◌≤◌, Bool, true, false, not, List, [], ◌∷◌, ◌++◌, length, filter, refl, sym, ap, arith, subst, None, append_assoc}
+use Rattle.std.proofs.Common.{ℕ, zero, suc, ◌≡◌, ◌==◌, ◌∙◌, ◌+◌, ◌-◌, ◌<◌, ◌≤◌, not, List, [], ◌∷◌, ◌++◌, length, filter, sym, ap, arith, subst, None, append_assoc}
 use Rattle.std.specs.Prelude.{slice_get, replicate}
 use Rattle.std.specs.List.{AllByRecursion as Every}
 use Rattle.std.proofs.lemmas.List.{replicate_more}
@@ -16,7 +16,7 @@ use Rattle.pre_bridge.specs.Turns.{dues}
 use Rattle.pre_bridge.specs.Relays.{Stands}
 use Rattle.pre_sim.specs.declared.lanes.Lane.{Lane}
 use Rattle.pre_sim.specs.Stands.{AreInside, LaneStands, LanesStand}
-use Rattle.pre_sim.proofs.Lists.{within}
+use Rattle.pre_sim.proofs.Lists.{within, filter_swap}
 use Rattle.pre_sim.proofs.Inside.{arrivals_rise, settled_inside, left_of}
 use Rattle.pre_sim.proofs.EntriesTakes.{take_none}
 
@@ -45,16 +45,6 @@ module _ (laws : LeftLaws) (relay : Relay) (net : Network) (streams : Streams) (
   -- so many takes leave what isn't due
   pub left_inside : (n : ℕ) → all ≤ n → inside net streams (calls ++ replicate n (taken t)) ≡ left_of t (inside net streams calls)
   left_inside n le = let same : n ≡ all + (n - all) = omega (arith, le) in ap (λ m. inside net streams (calls ++ replicate m (taken t))) same ∙ left_after (n - all)
-
-filter_swap : {X : Type 0} (p q : X → Bool) (xs : List X) → filter p (filter q xs) ≡ filter q (filter p xs)
-filter_swap p q [] = refl
-filter_swap p q (x ∷ xs) = go (p x) (q x) refl refl (filter_swap p q xs)
-  where
-    go : (b c : Bool) → p x ≡ b → q x ≡ c → filter p (filter q xs) ≡ filter q (filter p xs) → filter p (filter q (x ∷ xs)) ≡ filter q (filter p (x ∷ xs))
-    go true true here there more = rw (there, here, there) (ap (λ zs. x ∷ zs) more)
-    go true false here there more = rw (there, here, there) more
-    go false true here there more = rw (there, here) more
-    go false false here there more = rw (there, here) more
 
 module _ (w : Scenario) (t : ℕ) (g : History) (order : (a : ℕ) → a < length w.net.arcs → IsOrdered w g a) (early : (a : ℕ) → a < length w.net.arcs → Every (λ (x : Arrive). x.tick < t + 1) (Arrivals g a)) where
   lane_settles : (a : ℕ) → a < length w.net.arcs → (lane : Lane) (entries : List Entry) → LaneStands w g a t lane (of_arc a entries) → LaneStands w g a (t + 1) lane (of_arc a (left_of t entries))

@@ -5,7 +5,6 @@ use Rattle.std.specs.List.{AllByRecursion as Every}
 use Rattle.std.proofs.lemmas.Bool.{cases_lt}
 use Rattle.std.proofs.lemmas.List.{append-nil}
 use Rattle.std.proofs.lemmas.List.Elements.{filter_map-append}
-use Rattle.std.proofs.lemmas.Bool.Decides.{nat_tests}
 use Rattle.pre_rings.specs.declared.slots.FrameRef.{FrameRef}
 use Rattle.pre_rings.specs.Ports.{Port, frames_at, with_frames}
 use Rattle.pre_topo.specs.declared.arcs.Arc.{Arc}
@@ -28,7 +27,7 @@ use Rattle.pre_sim.specs.Parts.{LegalAt, LanePart, LaneFront}
 use Rattle.pre_sim.specs.Reach.{CanRun}
 use Rattle.pre_sim.specs.Spelled.{NoneWaits, LeavesFirst, least_whole}
 use Rattle.pre_sim.specs.Stands.{StillWaiting, IsSent, IsLane, AreApart, AreInside, LaneStands, ring_numbers}
-use Rattle.pre_sim.proofs.Lists.{there, within, read_at, every_at}
+use Rattle.pre_sim.proofs.Lists.{there, within, read_at, every_at, every_placed}
 use Rattle.pre_sim.proofs.Bridge.{waits_still}
 use Rattle.pre_sim.proofs.Inside.{begun_inside}
 use Rattle.pre_sim.proofs.Keeping.{keep_same, keep_started}
@@ -37,9 +36,7 @@ use Rattle.pre_sim.proofs.Free.{not_occupied, occupied_sending, occupied_gap}
 use Rattle.pre_sim.proofs.Starting.{none_beyond, goes_whole, none_at_all, busy_starts, idle_starts, frame_starts}
 use Rattle.pre_sim.proofs.Started.{but, left_numbers, still_but, started_lane}
 use Rattle.pre_sim.proofs.EndParts.{Laws, moved, stays_standing, with_no_more}
-
-is_eq : (m n : ℕ) → m ≡ n → (m == n) ≡ true
-is_eq m n e = grind (arith, nat_tests)
+use Rattle.pre_sim.proofs.NumberTests.{is_eq}
 
 -- of mPackets that take a tick at least, no more begin than there are ticks
 begins_apart : (w : Scenario) (h : History) (a : ℕ) → IsOrdered w h a → 1 ≤ (arc w a).cost → (i : ℕ) (b : Begin) → slice_get (Begins h a) i ≡ Some b → i ≤ b.tick
@@ -63,11 +60,6 @@ few_begins w h t a order cost early = go (length (Begins h a)) refl
         let before : n ≤ b.0.tick = begins_apart w h a order cost n b.0 b.1 in
         let lt : b.0.tick < t = every_at (λ (b : Begin). b.tick < t) (Begins h a) n b.0 early b.1 in
         omega (arith, is, before, lt)
-
--- each of a list, by its place
-every_placed : {X : Type 0} (xs : List X) (P : X → Type 0) → ((i : ℕ) (x : X) → slice_get xs i ≡ Some x → P x) → Every P xs
-every_placed [] P all = tt
-every_placed (x ∷ xs) P all = (all 0 x refl, every_placed xs P (λ i y at. all (suc i) y at))
 
 module _ (laws : Laws) (w : Scenario) (can : CanRun w.net w.streams w.script) (t a : ℕ) (a_lt : a < length w.net.arcs) (lane : Lane) (store : Store) (keeps : LaneKeeps w store a lane) where
   -- the place of the starts on the arc
@@ -111,7 +103,7 @@ module _ (laws : Laws) (w : Scenario) (can : CanRun w.net w.streams w.script) (t
 
     -- each arrival is of an mPacket that began
     known : Every (λ (x : Arrive). x.ord < length (Begins h a)) (Arrivals h a)
-    known = every_placed (Arrivals h a) (λ (x : Arrive). x.ord < length (Begins h a)) (λ i x at.
+    known = every_placed (λ (x : Arrive). x.ord < length (Begins h a)) (Arrivals h a) (λ i x at.
         let lt : i < length (Arrivals h a) = within (Arrivals h a) i x at in
         omega (arith, lt, order.arrival_places i x at, order.arrivals_ended, order.ends_begun))
 

@@ -1,5 +1,5 @@
 -- The lane after a frame began.
-use Rattle.std.proofs.Common.{ℕ, suc, ◌≡◌, ◌≢◌, ◌==◌, ◌&&◌, ◌||◌, ◌+◌, ◌*◌, ◌≤◌, not, Bool, true, false, List, [], ◌∷◌, ◌++◌, length, drop, refl, sym, ◌∙◌, ap, inl, inr, arith, subst, Some, None, map, filter, length-append}
+use Rattle.std.proofs.Common.{ℕ, ◌≡◌, ◌≢◌, ◌==◌, ◌&&◌, ◌||◌, ◌+◌, ◌*◌, ◌≤◌, not, Bool, true, false, List, [], ◌∷◌, ◌++◌, length, drop, refl, sym, ◌∙◌, ap, inl, inr, arith, subst, Some, None, map, filter, length-append}
 use Rattle.std.specs.Prelude.{slice_get, if◌then◌else◌}
 use Rattle.std.specs.List.{list_any, AllByRecursion as Every}
 use Rattle.std.proofs.Math.Path.{fun_ext}
@@ -8,7 +8,6 @@ use Rattle.std.proofs.lemmas.List.Elements.{filter_map-append}
 use Rattle.std.proofs.lemmas.List.{append-nil, get_or-set_other}
 use Rattle.std.proofs.lemmas.Grind.{get_or-set_at}
 use Rattle.std.proofs.lemmas.Bool.{cases_eq}
-use Rattle.std.proofs.lemmas.Bool.Decides.{nat_tests}
 use Rattle.pre_base.specs.declared.numbers.FrameNo.{FrameNo}
 use Rattle.pre_mpacket.specs.declared.packets.Kind.TheVariants as kind
 use Rattle.pre_rings.specs.declared.slots.FrameRef.{FrameRef}
@@ -22,13 +21,8 @@ use Rattle.pre_sim.specs.declared.lanes.Sending.{Sending}
 use Rattle.pre_sim.specs.declared.lanes.Flight.{Flight}
 use Rattle.pre_sim.specs.Keeps.{Store, Waits}
 use Rattle.pre_sim.specs.Stands.{AreFlying, IsWholeBegin, IsLane, AreApart, ring_numbers, has_begun, StillWaiting}
-use Rattle.pre_sim.proofs.Lists.{at_last, at_front, every-append}
-
-not_eq : (m n : ℕ) → m ≢ n → (m == n) ≡ false
-not_eq m n other = grind (arith, nat_tests)
-
-is_eq : (m n : ℕ) → m ≡ n → (m == n) ≡ true
-is_eq m n e = grind (arith, nat_tests)
+use Rattle.pre_sim.proofs.Lists.{at_last, at_front, every-append, length_filter, every_filter}
+use Rattle.pre_sim.proofs.NumberTests.{is_eq, not_eq, and_or}
 
 -- ---- the numbers but one
 
@@ -43,29 +37,13 @@ but_none k (n ∷ ns) (here, more) = rw (not_eq k n here) (ap (λ xs. n ∷ xs) 
 but_first : (n : ℕ) (ns : List ℕ) → AreApart (n ∷ ns) → but n (n ∷ ns) ≡ ns
 but_first n ns (first, apart) = rw (is_eq n n refl) (but_none n ns first)
 
-every_but : (P : ℕ → Type 0) (k : ℕ) (ns : List ℕ) → Every P ns → Every P (but k ns)
-every_but P k [] all = tt
-every_but P k (n ∷ ns) (here, more) = go (k == n) (every_but P k ns more)
-  where
-    go : (b : Bool) → Every P (but k ns) → Every P (if not b then n ∷ but k ns else but k ns)
-    go true rest = rest
-    go false rest = (here, rest)
-
 apart_but : (k : ℕ) (ns : List ℕ) → AreApart ns → AreApart (but k ns)
 apart_but k [] apart = tt
 apart_but k (n ∷ ns) (first, apart) = go (k == n) (apart_but k ns apart)
   where
     go : (b : Bool) → AreApart (but k ns) → AreApart (if not b then n ∷ but k ns else but k ns)
     go true rest = rest
-    go false rest = (every_but (λ m. n ≢ m) k ns first, rest)
-
-length_filter : (test : ℕ → Bool) (ns : List ℕ) → length (filter test ns) ≤ length ns
-length_filter test [] = omega arith
-length_filter test (n ∷ ns) = go (test n) (length_filter test ns)
-  where
-    go : (b : Bool) → length (filter test ns) ≤ length ns → length (if b then n ∷ filter test ns else filter test ns) ≤ suc (length ns)
-    go true le = omega (arith, le)
-    go false le = omega (arith, le)
+    go false rest = (every_filter (λ m. n ≢ m) (λ m. not (k == m)) ns first, rest)
 
 -- ---- the rings that a frame left
 
@@ -106,11 +84,6 @@ thinner k begun (e ∷ es) = go e.entered (begun e.frame) (k == e.frame) refl re
     go true false true p q r rest = rw (p, q, r) rest
     go true false false p q r rest = rw (p, q, r) (ap (λ xs. e.frame ∷ xs) rest)
     go false y z p q r rest = rw p rest
-
-and_or : (x y : Bool) → (x || ((y && true) || false)) ≡ (x || y)
-and_or true y = refl
-and_or false true = refl
-and_or false false = refl
 
 pub still_but : (h : History) (a : ℕ) (b : Begin) (k : FrameNo) → b.arc ≡ a → b.what ≡ what.Frame k → b.from ≡ 0 → (λ p. filter (λ n. not (k.0 == n)) (StillWaiting h a p)) ≡ StillWaiting (h ++ PlainEvent.begin b ∷ []) a
 unfolding StillWaiting

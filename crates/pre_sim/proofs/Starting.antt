@@ -1,6 +1,5 @@
 -- What begins on an arc, by what the lane says.
-use Rattle.std.proofs.Common.{ℕ, ◌≡◌, ◌≢◌, ◌<◌, ◌≤◌, nat_lt, Bool, true, false, List, [], ◌∷◌, length, refl, sym, ◌∙◌, ap, inl, inr, arith, subst, map, filter}
-use Rattle.std.specs.Prelude.{if◌then◌else◌}
+use Rattle.std.proofs.Common.{ℕ, ◌≡◌, ◌≢◌, ◌<◌, ◌≤◌, nat_lt, false, List, [], ◌∷◌, length, refl, sym, ◌∙◌, ap, inl, inr, arith, subst, map, filter}
 use Rattle.std.specs.List.{AllByRecursion as Every}
 use Rattle.std.proofs.lemmas.Bool.{cases_lt}
 use Rattle.std.proofs.lemmas.List.{get_or_past}
@@ -25,6 +24,7 @@ use Rattle.pre_sim.specs.Reach.{CanRun}
 use Rattle.pre_sim.specs.Spelled.{NoneWaits, least_whole}
 use Rattle.pre_sim.specs.Stands.{IsWholeBegin}
 use Rattle.pre_sim.proofs.Direct.{off_on_route}
+use Rattle.pre_sim.proofs.Lists.{every_filter}
 
 -- ---- which frames wait
 
@@ -60,14 +60,6 @@ no_fragments : (ps : List Packet) → Every (λ (p : Packet). p.begin.kind ≡ k
 no_fragments [] all = refl
 no_fragments (p ∷ ps) (here, more) = let no' : is_fragment p.begin.kind ≡ false = ap is_fragment here in rw no' (no_fragments ps more)
 
-kept : (test : Packet → Bool) (ps : List Packet) → Every (λ (p : Packet). p.begin.kind ≡ kind.Express) ps → Every (λ (p : Packet). p.begin.kind ≡ kind.Express) (filter test ps)
-kept test [] all = tt
-kept test (p ∷ ps) (here, more) = go (test p) (kept test ps more)
-  where
-    go : (b : Bool) → Every (λ (p : Packet). p.begin.kind ≡ kind.Express) (filter test ps) → Every (λ (p : Packet). p.begin.kind ≡ kind.Express) (if b then p ∷ filter test ps else filter test ps)
-    go true rest = (here, rest)
-    go false rest = rest
-
 module _ (w : Scenario) (h : History) (t a : ℕ) (talks : (arc w a).mode ≢ mode.Negotiate) (whole : Every IsWholeBegin (Begins h a)) where
   packets_whole : (bs : List Begin) → Every IsWholeBegin bs → Every (λ (p : Packet). p.begin.kind ≡ kind.Express) (map (packet h a) bs)
   packets_whole [] all = tt
@@ -75,7 +67,7 @@ module _ (w : Scenario) (h : History) (t a : ℕ) (talks : (arc w a).mode ≢ mo
 
   no_run : filter (λ (p : Packet). is_fragment p.begin.kind) (PacketsBefore h a t) ≡ []
   unfolding Packets
-  no_run = no_fragments (PacketsBefore h a t) (kept (λ p. nat_lt p.begin.tick t) (map (packet h a) (Begins h a)) (packets_whole (Begins h a) whole))
+  no_run = no_fragments (PacketsBefore h a t) (every_filter (λ (p : Packet). p.begin.kind ≡ kind.Express) (λ p. nat_lt p.begin.tick t) (map (packet h a) (Begins h a)) (packets_whole (Begins h a) whole))
 
   nothing_there : ((p : ℕ) → Waiting h a p t ≡ []) → (i : Item) (c : Choice) → There w h a t i c → ⊥
   nothing_there none Item.express c (f, (p, from, to, (behind, is), above), so) = cc (none p, is)

@@ -16,7 +16,6 @@ use Rattle.pre_sim.specs.Reach.{CanRun}
 use Rattle.pre_sim.specs.Telling.{TellsAll}
 use Rattle.pre_rings.specs.declared.slots.FrameRef.{FrameRef}
 use Rattle.pre_bridge.specs.Relays.{Stands}
-use Rattle.pre_sim.specs.Keeps.{IsKept}
 use Rattle.pre_sim.specs.Lanes.{IsIdle, AreIdle}
 use Rattle.pre_sim.specs.Stands.{IsLane, StillWaiting, LaneStands, Reaches}
 use Rattle.pre_sim.specs.declared.halts.Halt.{Halt}
@@ -26,12 +25,7 @@ use Rattle.pre_sim.specs.Parts.{TellsPart, TickPart, AdvancePart, AdvanceFront, 
 use Rattle.pre_sim.specs.Views.{SimView, HasTold}
 use Rattle.pre_sim.specs.Steps.{StepTells}
 use Rattle.pre_sim.proofs.Direct.{is_plain}
-
-abbrev Takes : Type 1
-Takes = List ℕ → History → Type 0
-
-abbrev Fails : Type 1
-Fails = List ℕ → History → PlainEvent → Type 0
+use Rattle.pre_sim.proofs.TellParts.{Takes, Fails}
 
 abbrev NoAlias : Type 0
 NoAlias = (w : Scenario) → IsPlain w → (n : ℕ) (h : History) → LegalUpTo w n h → (a : ℕ) → All (λ x. ¬ Alias w h a x.ord) (Arrivals h a)
@@ -130,7 +124,3 @@ has_told_nothing no_alias s can next sent delivered dropped idle stands =
 
     start : s.next ≡ 0 → number (length s.run.net.arcs) s.next 0 ≡ 0
     start is = ap (λ t. number (length s.run.net.arcs) t 0) is ∙ none (moments (length s.run.net.arcs))
-
--- so it is at a later tick
-pub kept_later : (w : Scenario) (t : ℕ) (p : Progress) → IsKept w t p → IsKept w (t + 1) p
-kept_later w t p kept = record { calls = kept.calls; stands = kept.stands; latest = omega (arith, kept.latest); keeps = kept.keeps }

@@ -9,6 +9,8 @@ use Rattle.std.proofs.Math.Dec.{eqb}
 use Rattle.std.proofs.lemmas.Map.Made.{IsDistinct-from_AllPairs}
 use Rattle.std.proofs.lemmas.Bool.Decides.{Decides-eqb, eqb_tells}
 use Rattle.std.proofs.lemmas.Map.Steps.{length-le_from_distinct_below}
+use Rattle.std.proofs.Math.ListN.{get_or-map}
+use Rattle.std.proofs.Math.Nat.{add-zero}
 use Rattle.pre_trace.specs.Scenario.{Scenario}
 use Rattle.pre_trace.specs.Moments.{Phase, moments}
 use Rattle.pre_trace.specs.History.{PlainEvent, History, Delivery}
@@ -29,13 +31,12 @@ use Rattle.pre_sim.specs.Parts.{LegalAt, IsFront, LanesPart, LanesFront, Arrival
 use Rattle.pre_sim.proofs.Lists.{count_by-append}
 use Rattle.pre_sim.proofs.Moments.{one_more, expiries_place}
 use Rattle.pre_sim.proofs.Calm.{calm_sets, calm_expiries}
+use Rattle.pre_sim.proofs.NumberTests.{adds}
 
 -- ---- at most as many deliveries as sends
 
 read_map : (ds : List Delivery) (i : ℕ) (z : Delivery) → slice_index_or (map (λ (d : Delivery). d.frame) ds) i z.frame ≡ (slice_index_or ds i z).frame
-read_map [] i z = refl
-read_map (d ∷ ds) zero z = refl
-read_map (d ∷ ds) (suc i) z = read_map ds i z
+read_map ds i z = get_or-map (λ (d : Delivery). d.frame) ds i z
 
 apart : (ds : List Delivery) → AllPairs (λ (d : Delivery) (e : Delivery). d.frame ≢ e.frame) ds → AllPairs (λ (m : ℕ) (n : ℕ). m ≢ n) (map (λ (d : Delivery). d.frame) ds)
 apart ds pairs i j d lt within same =
@@ -66,10 +67,7 @@ module _ (w : Scenario) (can : CanRun w.net w.streams w.script) where
 
   -- nothing expires
   pub expired : (t n : ℕ) (h : History) → n ≤ A → LegalAt w t (1 + 2 * A) h → LegalAt w t (1 + 2 * A + n) h
-  expired t zero h le legal = subst (λ m. LegalAt w t m h) (plus_none (1 + 2 * A)) legal
-    where
-      plus_none : (x : ℕ) → x ≡ x + 0
-      plus_none x = omega arith
+  expired t zero h le legal = subst (λ m. LegalAt w t m h) (sym (add-zero (1 + 2 * A))) legal
   expired t (suc n) h le legal =
       let before = expired t n h (omega (arith, le)) legal in
       subst (λ m. LegalAt w t m h) (next (1 + 2 * A) n)
@@ -118,9 +116,6 @@ module _ (w : Scenario) (can : CanRun w.net w.streams w.script) where
             deliveries = omega (arith, all, few, long, delivered, r.deliveries);
             drops = dropped ∙ (r.drops ∙ omega (arith, drops));
           })
-        where
-          adds : {a b c e : ℕ} → a ≡ b → c ≡ e → a + c ≡ b + e
-          adds p q = omega (arith, p, q)
 
       -- each frame keeps a slot of its own
       pub landed_kept : new.relay.latest.0 ≤ t → IsKept w t old → IsKept w t new
@@ -173,9 +168,6 @@ module _ (w : Scenario) (can : CanRun w.net w.streams w.script) where
           deliveries = omega (arith, all, delivered, first.delivered, r.deliveries);
           drops = omega (arith, drops, dropped, first.drops, r.drops);
         })
-      where
-        adds : {a b c e : ℕ} → a ≡ b → c ≡ e → a + c ≡ b + e
-        adds p q = omega (arith, p, q)
 
     pub left_front : LanesFront w t (2 + 3 * A) (t + 1) c fs → CarriesFront w t (1 + 3 * A) t old (es ++ fs)
     left_front front h r = let one = entered h r in subst (IsFront w) (append_assoc h es fs) (front (h ++ es) (inside w.net w.streams one.2.0) one.0 one.2.2)
@@ -219,12 +211,9 @@ module _ (w : Scenario) (t : ℕ) (old : Progress)
     pub closes : AdvancePart w t old new true (es ++ closing_event w new ∷ [])
     closes h r =
         let done = tick h r in
-        let legal : LegalUpTo w (last_moment w) (h ++ es) = subst (λ n. LegalUpTo w n (h ++ es)) (ap (λ x. (x + 1) * moments (length w.net.arcs)) last) (subst (λ n. LegalUpTo w n (h ++ es)) (plus_none ((t + 1) * moments (length w.net.arcs))) done.legal) in
+        let legal : LegalUpTo w (last_moment w) (h ++ es) = subst (λ n. LegalUpTo w n (h ++ es)) (ap (λ x. (x + 1) * moments (length w.net.arcs)) last) (subst (λ n. LegalUpTo w n (h ++ es)) (add-zero ((t + 1) * moments (length w.net.arcs))) done.legal) in
         (h ++ es, [], (legal, no_alias (last_moment w) (h ++ es) legal), no_counts (last_moment w) (h ++ es) legal, all (PlainEvent.end (closing w (h ++ es))) (same done))
       where
-        plus_none : (x : ℕ) → x + 0 ≡ x
-        plus_none x = omega arith
-
         all : (e : PlainEvent) → closing_event w new ≡ e → h ++ (es ++ closing_event w new ∷ []) ≡ ((h ++ es) ++ []) ++ e ∷ []
         all e is = sym (append_assoc h es (closing_event w new ∷ [])) ∙ (ap (λ x. (h ++ es) ++ x ∷ []) is ∙ ap (λ g. g ++ e ∷ []) (sym (append-nil (h ++ es))))
 

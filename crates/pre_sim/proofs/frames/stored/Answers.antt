@@ -1,8 +1,8 @@
 use Rattle.std.proofs.Common.{◌∙◌, ap, Some, []}
 use Rattle.std.specs.Prelude.{set}
 use Rattle.pre_sim.specs.Keeps.{Store}
-use Rattle.pre_sim.proofs.Counts.{set_twice}
 use Rattle.pre_sim.proofs.frames.stored.Goals as goal
+use Rattle.pre_sim.proofs.Lists.{set_twice}
 
 pub returns-clause-stored : goal.returns-clause-stored
 returns-clause-stored c = (

@@ -5,8 +5,8 @@ use Rattle.pre_topo.specs.declared.arcs.Arc.{Arc}
 use Rattle.pre_trace.specs.Scenario.{no_arc}
 use Rattle.pre_sim.specs.declared.lanes.Lane.{Lane}
 use Rattle.pre_sim.specs.Lanes.{IsIdle}
-use Rattle.pre_sim.proofs.Counts.{each_pushed}
 use Rattle.pre_sim.proofs.lanes.idle_lanes.Goals as goal
+use Rattle.pre_sim.proofs.Lists.{each_pushed}
 
 -- an arc by its number, whatever is named past the end
 idle_at : (arcs : List Arc) (i n : ℕ) (d : Arc) (lane : Lane) → i < length arcs → n ≡ i → IsIdle (slice_index_or arcs i d).rings lane → IsIdle (slice_index_or arcs n no_arc).rings lane

@@ -7,10 +7,10 @@ use Rattle.pre_sim.specs.Parts.{scenario_of}
 use Rattle.pre_sim.specs.Sends.{RelaysPart, RelaysFront}
 use Rattle.pre_sim.specs.Told.{tells_nothing}
 use Rattle.pre_sim.proofs.TellParts.{then_front}
-use Rattle.pre_sim.proofs.EntriesCount.{written}
 use Rattle.pre_sim.proofs.Settling.{LeftLaws}
 use Rattle.pre_sim.proofs.EntriesParts.{EntryLaws, relays_front, entries_told}
 use Rattle.pre_sim.proofs.ticks.entries.Goals as goal
+use Rattle.pre_sim.proofs.Lists.{written}
 
 pub returns-in_err-lost-clause-part : goal.returns-in_err-lost-clause-part
 returns-in_err-lost-clause-part g c =

@@ -1,9 +1,9 @@
 use Rattle.std.proofs.Common.{rules, refl, sym, subst, ◌+◌, ◌*◌, length, List, []}
+use Rattle.std.proofs.lemmas.List.{take_at}
 use Rattle.pre_bridge.specs.Inside.{inside}
 use Rattle.pre_sim.specs.declared.lanes.Lane.{Lane}
 use Rattle.pre_sim.specs.Keeps.{Keeps}
 use Rattle.pre_sim.specs.Parts.{LanesFront, EntriesFront, scenario_of}
-use Rattle.pre_sim.proofs.Lists.{written_back}
 use Rattle.pre_sim.proofs.TellParts.{then_front, then_part, on_ok}
 use Rattle.pre_sim.specs.Told.{tells_nothing}
 use Rattle.pre_sim.proofs.TickParts.{left, left_front, left_kept, entries_front}
@@ -33,7 +33,7 @@ returns-clause-part g c =
     then_part c.args.plan.now.net.now c.starts.result (g.W.Watcher.took c.args.watcher.now) (g.W.Watcher.took c.entries.new.watcher) (g.W.Watcher.took c.starts.new.watcher) (g.W.Watcher.torn c.starts.new.watcher) first.0
     _ _ (LanesFront w t (2 + 3 * length w.net.arcs) (t + 1) c.deref_mut.result.now) _
     first.1 c.starts.ensures.part
-    (λ x es part. left w c.requires.can t c.args.progress.now c.entries.new.progress c.deref_mut.result.now c.starts.new.lanes first.0 es first.2 c.deref_mut.ensures.value _ c.entries.new.progress.store (part c.entries.new.progress.store) (written_back c.entries.new.progress.lanes.len c.starts.new.lanes _ (search rules)) refl refl refl refl)
+    (λ x es part. left w c.requires.can t c.args.progress.now c.entries.new.progress c.deref_mut.result.now c.starts.new.lanes first.0 es first.2 c.deref_mut.ensures.value _ c.entries.new.progress.store (part c.entries.new.progress.store) (take_at c.starts.new.lanes _ c.entries.new.progress.lanes.len (search rules)) refl refl refl refl)
     (λ es front. left_front w c.requires.can t c.args.progress.now c.entries.new.progress c.deref_mut.result.now c.starts.new.lanes first.0 es first.2 c.deref_mut.ensures.value front)
 
 pub returns-clause-kept : goal.returns-clause-kept
@@ -42,4 +42,4 @@ returns-clause-kept g c =
     let t = c.args.now.0 in
     on_ok c.args.plan.now.net.now c.starts.result (g.W.Watcher.took c.entries.new.watcher) (g.W.Watcher.took c.starts.new.watcher) (g.W.Watcher.torn c.starts.new.watcher)
     _ (LanesFront w t (2 + 3 * length w.net.arcs) (t + 1) c.deref_mut.result.now) _ c.starts.ensures.part
-    (λ x es part. left_kept w c.requires.can t c.entries.new.progress _ c.deref_mut.result.now c.starts.new.lanes es c.deref_mut.ensures.value (part c.entries.new.progress.store) (written_back c.entries.new.progress.lanes.len c.starts.new.lanes _ (search rules)) refl refl c.in_ok-entries.ensures.kept)
+    (λ x es part. left_kept w c.requires.can t c.entries.new.progress _ c.deref_mut.result.now c.starts.new.lanes es c.deref_mut.ensures.value (part c.entries.new.progress.store) (take_at c.starts.new.lanes _ c.entries.new.progress.lanes.len (search rules)) refl refl c.in_ok-entries.ensures.kept)

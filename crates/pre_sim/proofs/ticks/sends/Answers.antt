@@ -7,8 +7,9 @@ use Rattle.pre_sim.specs.Sends.{ComesPart, ComesFront, KeepsSame, sent_frame, se
 use Rattle.pre_sim.specs.Told.{tells_nothing, tells_then}
 use Rattle.pre_sim.proofs.TellParts.{then_front}
 use Rattle.pre_sim.proofs.EntriesRun.{none_come}
-use Rattle.pre_sim.proofs.EntriesCount.{kept_on, one_more_send, one_more_front, one_more_now, sends_front, written, more_drops, sums_up, is_now, is_not_now}
+use Rattle.pre_sim.proofs.EntriesCount.{kept_on, one_more_send, one_more_front, one_more_now, sends_front, more_drops, sums_up, is_now, is_not_now}
 use Rattle.pre_sim.proofs.ticks.sends.Goals as goal
+use Rattle.pre_sim.proofs.Lists.{written}
 
 pub loop-progress-init : goal.loop-progress-init
 loop-progress-init g c = record {
