@@ -320,20 +320,20 @@ module _ (laws : ArrivalLaws) (w : Scenario) (can : CanRun w.net w.streams w.scr
         ∙ ap (λ o. inside w.net w.streams calls ++ kept t a (table.latency_of w.net a) (in_slot f slot) o) onto
 
     -- it goes into the relay
-    pub kept_arrival : (store store' : Store) (relay relay' : Relay) → (calls : List Call) → Stands relay w.net w.streams calls → KeepsInside w t a f store store' relay relay' true
+    pub kept_arrival : (store store' : Store) (relay relay' : Relay) → (calls : List Call) → Stands relay w.net w.streams calls → KeepsInside t a f store store' relay relay' true
         → ArrivalPart w t (1 + length w.net.arcs + a) a 0 store store' relay relay' lane new (arrives_at t a f.ord ∷ [])
     kept_arrival store store' relay relay' calls stands keeps =
-        let b = there_is (table.onward w.net w.streams a f.vid) (keeps.2 calls stands).1 in (
+        let b = there_is (table.onward w.net w.streams a f.vid) (keeps.2 w.net w.streams calls stands).1 in (
           entry b.0 keeps.0 ∷ [],
           kept_part b.0 b.1 store store' keeps.0 keeps.1,
-          λ calls' stands'. (calls' ++ delivery t a (in_slot f keeps.0) ∷ [], (keeps.2 calls' stands').0, one_inside calls' b.0 keeps.0 b.1),
+          λ calls' stands'. (calls' ++ delivery t a (in_slot f keeps.0) ∷ [], (keeps.2 w.net w.streams calls' stands').0, one_inside calls' b.0 keeps.0 b.1),
         )
 
     -- or is delivered
-    pub given_arrival : (store store' : Store) (relay relay' : Relay) → (calls : List Call) → Stands relay w.net w.streams calls → KeepsInside w t a f store store' relay relay' false
+    pub given_arrival : (store store' : Store) (relay relay' : Relay) → (calls : List Call) → Stands relay w.net w.streams calls → KeepsInside t a f store store' relay relay' false
         → ArrivalPart w t (1 + length w.net.arcs + a) a 1 store store' relay relay' lane new (arrives_at t a f.ord ∷ delivered_at w.net t a f ∷ [])
     given_arrival store store' relay relay' calls stands keeps = (
       [],
-      subst (λ s. LanePart w t (1 + length w.net.arcs + a) a 1 t store s lane new [] (arrives_at t a f.ord ∷ delivered_at w.net t a f ∷ [])) (sym keeps.0) (given_part store (keeps.2 calls stands)),
+      subst (λ s. LanePart w t (1 + length w.net.arcs + a) a 1 t store s lane new [] (arrives_at t a f.ord ∷ delivered_at w.net t a f ∷ [])) (sym keeps.0) (given_part store (keeps.2 w.net w.streams calls stands)),
       λ calls' stands'. (calls', subst (λ r. Stands r w.net w.streams calls') (sym keeps.1) stands', sym (append-nil (inside w.net w.streams calls'))),
     )

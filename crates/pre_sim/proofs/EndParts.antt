@@ -25,9 +25,7 @@ use Rattle.pre_sim.specs.declared.lanes.Lane.{Lane}
 use Rattle.pre_sim.specs.Keeps.{Store, IsUnderWay, LaneKeeps, KeepsOn}
 use Rattle.pre_sim.specs.Lanes.{Ends as EndsNow, IsQuiet}
 use Rattle.pre_sim.specs.Parts.{LegalAt, IsFront, LanePart, LaneFront}
-use Rattle.pre_sim.specs.Reach.{CanRun}
 use Rattle.pre_sim.specs.Stands.{has_begun, StillWaiting, IsSent, IsLane, AreInside, LaneStands}
-use Rattle.pre_sim.proofs.Direct.{known_row}
 use Rattle.pre_sim.proofs.Keeping.{keep_same, keep_ended}
 use Rattle.pre_sim.proofs.Lists.{read_at}
 use Rattle.pre_sim.proofs.Moments.{one_more, whole_front, ends_place, ends_early, begins_on}
@@ -75,21 +73,21 @@ with_no_more w h a t lane items is = subst (λ xs. LaneStands w h a t lane xs) (
 pub under_way_is : (w : Scenario) (store : Store) (a : ℕ) (lane : Lane) (s : Sending) → LaneKeeps w store a lane → lane.sending ≡ Some s → IsUnderWay w store a s
 under_way_is w store a lane s keeps at = subst (λ (o : Option Sending). IfSome o (IsUnderWay w store a)) at keeps.sending
 
-pub long_enough : (w : Scenario) → CanRun w.net w.streams w.script → (store : Store) (a : ℕ) (s : Sending) → IsUnderWay w store a s → 26 ≤ s.frame.size
-long_enough w can store a s is = omega (arith, is.frame.size, (known_row w can s.frame.frame.0 is.frame.known).3)
+pub long_enough : (w : Scenario) (store : Store) (a : ℕ) (s : Sending) → IsUnderWay w store a s → 26 ≤ s.frame.size
+long_enough w store a s is = omega (arith, is.frame.long)
 
 -- the octets that its slot holds are its frame's
 pub held_octets : (w : Scenario) (store : Store) (a : ℕ) (s : Sending) (octets : List ℕ) → IsUnderWay w store a s → HoldsAt store s.frame.slot octets → octets ≡ FrameOf w s.frame.frame.0
 held_octets w store a s octets is holds = let held = is.frame.held in cc (holds, held)
 
 -- and they end with a check
-pub with_check : (w : Scenario) → CanRun w.net w.streams w.script → (store : Store) (a : ℕ) (s : Sending) (octets : List ℕ) → IsUnderWay w store a s → HoldsAt store s.frame.slot octets → 4 ≤ length octets
-with_check w can store a s octets is holds =
+pub with_check : (w : Scenario) (store : Store) (a : ℕ) (s : Sending) (octets : List ℕ) → IsUnderWay w store a s → HoldsAt store s.frame.slot octets → 4 ≤ length octets
+with_check w store a s octets is holds =
     let size = is.frame.size in
-    let low = long_enough w can store a s is in
+    let low = long_enough w store a s is in
     omega (arith, ap length (held_octets w store a s octets is holds), length-FrameOf w s.frame.frame.0 (omega (arith, size, low)), size, low)
 
-module _ (laws : Laws) (w : Scenario) (can : CanRun w.net w.streams w.script) (t a : ℕ) (a_lt : a < length w.net.arcs) (store : Store) (lane : Lane) (keeps : LaneKeeps w store a lane) where
+module _ (laws : Laws) (w : Scenario) (t a : ℕ) (a_lt : a < length w.net.arcs) (store : Store) (lane : Lane) (keeps : LaneKeeps w store a lane) where
   module _ (h : History) (items : List Entry) (legal : LegalAt w t (1 + a) h) (is : LaneStands w h a t lane items) where
     abbrev n : ℕ
     n = number (length w.net.arcs) t (1 + a)
@@ -120,7 +118,7 @@ module _ (laws : Laws) (w : Scenario) (can : CanRun w.net w.streams w.script) (t
         go None none = none_ends w h t a order sizes on early is.on.whole (sent_as None none)
         go (Some s) at =
             let under = under_way_is w store a lane s keeps at in
-            not_yet w h t a order sizes on early is.on.whole s (sent_as (Some s) at) under.frame.size (long_enough w can store a s under) (later s at)
+            not_yet w h t a order sizes on early is.on.whole s (sent_as (Some s) at) under.frame.size (long_enough w store a s under) (later s at)
 
     module _ (s : Sending) (at : lane.sending ≡ Some s) where
       abbrev told : Ended
@@ -129,7 +127,7 @@ module _ (laws : Laws) (w : Scenario) (can : CanRun w.net w.streams w.script) (t
       now_ends : s.due.0 ≡ t → HappensIn w h t (Phase.ends a) (PlainEvent.ended told ∷ [])
       now_ends due =
           let under = under_way_is w store a lane s keeps at in
-          ends_now w h t a order sizes on early is.on.whole s (sent_as (Some s) at) under.frame.size (long_enough w can store a s under) due
+          ends_now w h t a order sizes on early is.on.whole s (sent_as (Some s) at) under.frame.size (long_enough w store a s under) due
 
       after : (f : Flight) → f.frame ≡ s.frame.frame → f.ord ≡ s.ord → f.due.0 ≡ t + (arc w a).delay
           → IsLane w a (Begins (h ++ PlainEvent.ended told ∷ []) a) (Ends (h ++ PlainEvent.ended told ∷ []) a) (length (Arrivals (h ++ PlainEvent.ended told ∷ []) a)) (StillWaiting (h ++ PlainEvent.ended told ∷ []) a)

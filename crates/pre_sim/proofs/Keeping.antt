@@ -16,7 +16,7 @@ use Rattle.pre_sim.specs.declared.lanes.Sending.{Sending}
 use Rattle.pre_sim.specs.declared.lanes.Flight.{Flight}
 use Rattle.pre_sim.specs.declared.lanes.Lane.{Lane}
 use Rattle.pre_sim.specs.Lanes.{IsIdle, AreIdle, Ends, Arrives}
-use Rattle.pre_sim.specs.Spelled.{LeavesFirst}
+use Rattle.pre_sim.specs.Choices.{LeavesFirst}
 use Rattle.pre_sim.specs.Arriving.{IsStored, in_slot}
 use Rattle.pre_sim.specs.Keeps.{Store, IsFrameOf, GoesOver, Waits, IsUnderWay, IsOnWire, IsKeptInside, LaneKeeps, Keeps, KeepsOn, among, under_way, of_lane, uses}
 use Rattle.pre_sim.specs.Sends.{KeepsCome}

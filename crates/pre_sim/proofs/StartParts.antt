@@ -25,7 +25,7 @@ use Rattle.pre_sim.specs.declared.lanes.Lane.{Lane}
 use Rattle.pre_sim.specs.Keeps.{Store, Waits, LaneKeeps}
 use Rattle.pre_sim.specs.Parts.{LegalAt, LanePart, LaneFront}
 use Rattle.pre_sim.specs.Reach.{CanRun}
-use Rattle.pre_sim.specs.Spelled.{NoneWaits, LeavesFirst, least_whole}
+use Rattle.pre_sim.specs.Choices.{NoneWaits, LeavesFirst, least_whole}
 use Rattle.pre_sim.specs.Stands.{StillWaiting, IsSent, IsLane, AreApart, AreInside, LaneStands, ring_numbers}
 use Rattle.pre_sim.proofs.Lists.{there, within, read_at, every_at, every_placed}
 use Rattle.pre_sim.proofs.Bridge.{waits_still}

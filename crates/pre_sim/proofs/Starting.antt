@@ -21,7 +21,7 @@ use Rattle.pre_trace.specs.Starts.{Item, Choice, There, StartRule, IsFront, Pree
 use Rattle.pre_trace.specs.Rules.{HappensIn}
 use Rattle.pre_sim.specs.Keeps.{Store, Waits}
 use Rattle.pre_sim.specs.Reach.{CanRun}
-use Rattle.pre_sim.specs.Spelled.{NoneWaits, least_whole}
+use Rattle.pre_sim.specs.Choices.{NoneWaits, least_whole}
 use Rattle.pre_sim.specs.Stands.{IsWholeBegin}
 use Rattle.pre_sim.proofs.Direct.{off_on_route}
 use Rattle.pre_sim.proofs.Lists.{every_filter}

@@ -2,8 +2,9 @@
 use Rattle.std.specs.Prelude.{ℕ, ◌≡◌, ◌≢◌, Bool, true, false, List, [], ◌∷◌, ◌++◌, length, slice_get, set, slice_index_or, Some, None}
 use Rattle.pre_rings.specs.declared.slots.FrameRef.{FrameRef}
 use Rattle.pre_topo.specs.declared.network.Network.{Network}
+use Rattle.pre_streams.specs.declared.rows.Streams.{Streams}
 use Rattle.pre_trace.specs.declared.events.Outcome.TheVariants as outcome
-use Rattle.pre_trace.specs.Scenario.{Scenario, no_arc}
+use Rattle.pre_trace.specs.Scenario.{no_arc}
 use Rattle.pre_trace.specs.History.{PlainEvent}
 use Rattle.pre_bridge.specs.declared.relays.Relay.{Relay}
 use Rattle.pre_bridge.specs.Inside.{Call, delivered}
@@ -27,10 +28,10 @@ abbrev pub IsStored : Store → List ℕ → ℕ → Store → Type 0
 IsStored store octets slot store' = (slice_get store slot ≡ Some None) × (store' ≡ set store slot (Some octets))
 
 -- Where a route goes on with the frame, it has a slot and is inside the bridge; where none does, all is as before.
-abbrev pub KeepsInside : Scenario → (t a : ℕ) → Flight → (store store' : Store) → (relay relay' : Relay) → Bool → Type 0
-KeepsInside w t a f store store' relay relay' true =
+abbrev pub KeepsInside : (t a : ℕ) → Flight → (store store' : Store) → (relay relay' : Relay) → Bool → Type 0
+KeepsInside t a f store store' relay relay' true =
     (slot : ℕ) × IsStored store f.octets.items slot store'
-    × ((calls : List Call) → Stands relay w.net w.streams calls
-    → Stands relay' w.net w.streams (calls ++ delivered t a (in_slot f slot) ∷ []) × (table.onward w.net w.streams a f.vid ≢ None))
-KeepsInside w t a f store store' relay relay' false =
-    (store' ≡ store) × (relay' ≡ relay) × ((calls : List Call) → Stands relay w.net w.streams calls → table.onward w.net w.streams a f.vid ≡ None)
+    × ((net : Network) (streams : Streams) (calls : List Call) → Stands relay net streams calls
+    → Stands relay' net streams (calls ++ delivered t a (in_slot f slot) ∷ []) × (table.onward net streams a f.vid ≢ None))
+KeepsInside t a f store store' relay relay' false =
+    (store' ≡ store) × (relay' ≡ relay) × ((net : Network) (streams : Streams) (calls : List Call) → Stands relay net streams calls → table.onward net streams a f.vid ≡ None)

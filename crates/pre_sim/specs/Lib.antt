@@ -9,4 +9,4 @@ pub mod Told
 pub mod Sends
 pub mod Parts
 pub mod Arriving
-pub mod Spelled
+pub mod Choices

@@ -43,7 +43,7 @@ drops_of false = 1
 abbrev pub coming_of : Entry → Coming
 coming_of e = record { arc = e.next.0; frame = e.frame.frame.0 }
 
--- what the bridges hand on at the tick, at most one frame for each arc
+-- what the bridges hand on at the tick, of which there are no more than arcs
 abbrev pub handed_on : Scenario → ℕ → List Entry → List Coming
 handed_on w t entries = map coming_of (take (length w.net.arcs) (dues t (length w.net.arcs) entries))
 
@@ -83,13 +83,13 @@ comes_to a f = record { arc = a; frame = f.frame.0 }
 abbrev pub KeepsCome : Scenario → (store store' : Store) → (old new : List Lane) → FrameRef → Type 0
 KeepsCome w store store' old new f = (entries : List Entry) → Keeps w store old entries (f ∷ []) → Keeps w store' new entries []
 
--- a frame came, and was kept or dropped
+-- a frame was sent, and has come to a ring, or its slot is in again
 abbrev pub KeepsSame : Scenario → (store store' : Store) → (old new : List Lane) → Type 0
 KeepsSame w store store' old new = (entries : List Entry) → Keeps w store old entries [] → Keeps w store' new entries []
 
 -- ---- what bridges hand on
 
--- what came out of the relay came to its rings, and no more is due than may come out
+-- What came out of the relay came to its rings; and it was asked once for each arc, or until nothing more was due.
 module _ (w : Scenario) (t : ℕ) (relay : Relay) (old : List Lane) where
   pub record RelaysPart (relay' : Relay) (new : List Lane) (lost : ℕ) (es : History) : Type 0 where
     pub deliveries : length (Deliveries es) ≡ 0

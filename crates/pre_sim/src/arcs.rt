@@ -7,7 +7,7 @@ ghost use Rattle.pre_trace.specs.Rules.{last_four};
 ghost use Rattle.pre_sim.specs.declared.halts.Halt.TheVariants.{Memory};
 ghost use Rattle.pre_sim.specs.Telling.{HasCause};
 ghost use Rattle.pre_sim.specs.Reach.{CanRun};
-ghost use Rattle.pre_sim.specs.Spelled.{least_whole};
+ghost use Rattle.pre_sim.specs.Choices.{least_whole};
 ghost use Rattle.pre_sim.specs.Keeps.{Store, LaneKeeps};
 ghost use Rattle.pre_sim.specs.Parts.{TellsPart, TellsOne, LanePart, LaneFront, ArrivalPart, RingTells, RingFront, scenario_of, count_of};
 ghost use Rattle.pre_sim.specs.Arriving.{KeepsInside, arrives_at, delivered_at};
@@ -52,7 +52,6 @@ pub(crate) fn end_on<W: Watcher>(
 ) -> Result<(), Halt>
     requires arc { arc.0 < length plan.now.net.now.arcs }
     requires now { now.0 ≤ 4 * 10 ^ 12 }
-    requires can { CanRun plan.now.net.now plan.now.streams.now plan.now.script.now }
     requires keeps { LaneKeeps (scenario_of plan.now) store.old arc.0 lane.old }
     ensures part { TellsPart plan.now.net.now result (W.took watcher.old) (W.took watcher.new) (W.torn watcher.new) (λ x es. LanePart (scenario_of plan.now) now.0 (1 + arc.0) arc.0 0 now.0 store.old store.new lane.old lane.new [] es) (LaneFront (scenario_of plan.now) now.0 (1 + arc.0) arc.0 now.0 lane.old) }
     ensures cause { HasCause (W.faults watcher.old) (W.faults watcher.new) result }
@@ -115,7 +114,7 @@ pub(crate) fn arrive_on<W: Watcher>(
         return Ok(false);
     };
     tell_arrival(plan.net, now, arc, flight.ord, watcher)?;
-    if keep_inside(plan, now, arc, &flight, relay, store)? {
+    if keep_inside(now, arc, &flight, relay, store)? {
         return Ok(false);
     }
     deliver(plan.net, now, arc, &flight, watcher)?;
@@ -124,7 +123,6 @@ pub(crate) fn arrive_on<W: Watcher>(
 
 /// Puts the frame of an arrival into the bridge, where a route goes on with it: whether one does.
 fn keep_inside(
-    plan: &Plan,
     now: Tick,
     arc: ArcId,
     flight: &Flight,
@@ -133,9 +131,8 @@ fn keep_inside(
 ) -> Result<bool, Halt>
     requires now { now.0 ≤ 4 * 10 ^ 12 }
     requires size { length flight.now.octets.items ≤ 1522 }
-    requires stands { (calls : List Call) × Stands relay.old plan.now.net.now plan.now.streams.now calls }
     requires latest { relay.old.latest.0 ≤ now.0 }
-    ensures inside { IfOk result (KeepsInside (scenario_of plan.now) now.0 arc.0 flight.now store.old store.new relay.old relay.new) }
+    ensures inside { IfOk result (KeepsInside now.0 arc.0 flight.now store.old store.new relay.old relay.new) }
     ensures memory { IfErr result (λ e. e ≡ Memory) }
     ensures latest { relay.new.latest.0 ≤ now.0 }
 {

@@ -1,6 +1,6 @@
 ghost use Rattle.std.specs.Prelude.{◌≡◌, ◌≢◌, ◌≤◌, IfOk, MatchOption, IsTrue, None, Some, [], ◌∷◌, ◌↔◌, List, length, drop, map, slice_get};
 ghost use Rattle.pre_rings.specs.Ports.{IsPort};
-ghost use Rattle.pre_sim.specs.Spelled.{NoneWaits, LeavesFirst};
+ghost use Rattle.pre_sim.specs.Choices.{NoneWaits, LeavesFirst};
 ghost use Rattle.pre_sim.specs.Lanes.{IsIdle, AreIdle, Ends, Arrives, IsQuiet, IsFarOff};
 
 use pre_base::{FrameNo, Prio, Tick};

@@ -26,7 +26,6 @@ pub(crate) fn ends<W: Watcher>(
     store: &mut FrameStore,
     watcher: &mut W,
 ) -> Result<(), Halt>
-    requires can { CanRun plan.now.net.now plan.now.streams.now plan.now.script.now }
     requires lanes { length lanes.old ≡ length plan.now.net.now.arcs }
     requires now { now.0 ≤ 4 * 10 ^ 12 }
     requires keeps { (entries : List Entry) × Keeps (scenario_of plan.now) store.old lanes.old entries [] }
@@ -107,7 +106,6 @@ pub(crate) fn come<W: Watcher>(
     store: &mut FrameStore,
     watcher: &mut W,
 ) -> Result<bool, Halt>
-    requires can { CanRun plan.now.net.now plan.now.streams.now plan.now.script.now }
     requires arc { arc.0 < length plan.now.net.now.arcs }
     requires lanes { length lanes.old ≡ length plan.now.net.now.arcs }
     requires keeps { (entries : List Entry) × Keeps (scenario_of plan.now) store.old lanes.old entries (frame ∷ []) }

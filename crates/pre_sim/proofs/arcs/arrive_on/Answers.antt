@@ -74,7 +74,7 @@ returns-then-branch-clause-part g c =
     let w : Scenario = scenario_of c.args.plan.now in
     let along : GoAlong w = c.route_law.ensures.along c.args.plan.now.net.now c.args.plan.now.streams.now c.requires.can.streams_fit in
     let wire = first_on_wire w c.args.store.now c.args.arc.0 c.args.now.0 c.args.lane.now c.take_arrival.new.self c.in-Some.flight c.requires.keeps c.in-Some.ensures in
-    let keeps = subst (KeepsInside w c.args.now.0 c.args.arc.0 c.in-Some.flight c.args.store.now c.keep_inside.new.store c.args.relay.now c.keep_inside.new.relay) c.if-branch.true c.in_ok-keep_inside.ensures.inside in (
+    let keeps = subst (KeepsInside c.args.now.0 c.args.arc.0 c.in-Some.flight c.args.store.now c.keep_inside.new.store c.args.relay.now c.keep_inside.new.relay) c.if-branch.true c.in_ok-keep_inside.ensures.inside in (
       arrives_at c.args.now.0 c.args.arc.0 c.in-Some.flight.ord ∷ [],
       c.in_ok-tell_arrival.ensures.one,
       kept_arrival laws w c.requires.can along c.args.now.0 c.args.arc.0 c.requires.arc c.args.lane.now c.in-Some.flight c.take_arrival.new.self c.in-Some.ensures wire
@@ -87,10 +87,10 @@ returns-in_err-deliver-clause-part g c =
     let w : Scenario = scenario_of c.args.plan.now in
     let along : GoAlong w = c.route_law.ensures.along c.args.plan.now.net.now c.args.plan.now.streams.now c.requires.can.streams_fit in
     let wire = first_on_wire w c.args.store.now c.args.arc.0 c.args.now.0 c.args.lane.now c.take_arrival.new.self c.in-Some.flight c.requires.keeps c.in-Some.ensures in
-    let keeps = subst (KeepsInside w c.args.now.0 c.args.arc.0 c.in-Some.flight c.args.store.now c.keep_inside.new.store c.args.relay.now c.keep_inside.new.relay) c.if-branch.false c.in_ok-keep_inside.ensures.inside in
+    let keeps = subst (KeepsInside c.args.now.0 c.args.arc.0 c.in-Some.flight c.args.store.now c.keep_inside.new.store c.args.relay.now c.keep_inside.new.relay) c.if-branch.false c.in_ok-keep_inside.ensures.inside in
     one_failed c.args.plan.now.net.now c.deliver.result c.from_residual-in_err-deliver.result (g.W.Watcher.took c.args.watcher.now) (g.W.Watcher.took c.tell_arrival.new.watcher) (g.W.Watcher.took c.deliver.new.watcher) (g.W.Watcher.torn c.deliver.new.watcher)
     (arrives_at c.args.now.0 c.args.arc.0 c.in-Some.flight.ord ∷ []) (delivered_at c.args.plan.now.net.now c.args.now.0 c.args.arc.0 c.in-Some.flight) _ (LaneFront w c.args.now.0 (1 + length c.args.plan.now.net.now.arcs + c.args.arc.0) c.args.arc.0 c.args.now.0 c.args.lane.now) c.in_ok-tell_arrival.ensures.one c.deliver.ensures.one
-    (both_front laws w c.requires.can along c.args.now.0 c.args.arc.0 c.requires.arc c.args.lane.now c.in-Some.flight c.take_arrival.new.self c.in-Some.ensures wire (keeps.2 c.requires.stands.0 c.requires.stands.1))
+    (both_front laws w c.requires.can along c.args.now.0 c.args.arc.0 c.requires.arc c.args.lane.now c.in-Some.flight c.take_arrival.new.self c.in-Some.ensures wire (keeps.2 w.net w.streams c.requires.stands.0 c.requires.stands.1))
     c.in_err-deliver.field-0.0 c.in_err-deliver.was (search rules)
 
 pub returns-clause-part : goal.returns-clause-part
@@ -99,7 +99,7 @@ returns-clause-part g c =
     let w : Scenario = scenario_of c.args.plan.now in
     let along : GoAlong w = c.route_law.ensures.along c.args.plan.now.net.now c.args.plan.now.streams.now c.requires.can.streams_fit in
     let wire = first_on_wire w c.args.store.now c.args.arc.0 c.args.now.0 c.args.lane.now c.take_arrival.new.self c.in-Some.flight c.requires.keeps c.in-Some.ensures in
-    let keeps = subst (KeepsInside w c.args.now.0 c.args.arc.0 c.in-Some.flight c.args.store.now c.keep_inside.new.store c.args.relay.now c.keep_inside.new.relay) c.if-branch.false c.in_ok-keep_inside.ensures.inside in (
+    let keeps = subst (KeepsInside c.args.now.0 c.args.arc.0 c.in-Some.flight c.args.store.now c.keep_inside.new.store c.args.relay.now c.keep_inside.new.relay) c.if-branch.false c.in_ok-keep_inside.ensures.inside in (
       arrives_at c.args.now.0 c.args.arc.0 c.in-Some.flight.ord ∷ delivered_at c.args.plan.now.net.now c.args.now.0 c.args.arc.0 c.in-Some.flight ∷ [],
       tells_then c.args.plan.now.net.now (g.W.Watcher.took c.args.watcher.now) (g.W.Watcher.took c.tell_arrival.new.watcher) (g.W.Watcher.took c.deliver.new.watcher)
           (arrives_at c.args.now.0 c.args.arc.0 c.in-Some.flight.ord ∷ []) (delivered_at c.args.plan.now.net.now c.args.now.0 c.args.arc.0 c.in-Some.flight ∷ []) c.in_ok-tell_arrival.ensures.one c.in_ok-deliver.ensures.one,

@@ -33,5 +33,5 @@ pub returns-in-Err-clause-inside : goal.returns-in-Err-clause-inside
 returns-in-Err-clause-inside c = (
   is_back c.args.store.now c.stored.new.store c.give_back.new.self c.in_ok-stored.field-0 c.in-Err.frame.slot c.args.flight.now.octets.items (search rules) (ap (λ (f : FrameRef). f.slot) c.in-Err.ensures.back.0) c.give_back.ensures,
   c.in-Err.ensures.back.1,
-  λ calls stands. (c.in-Err.ensures.refused c.args.plan.now.net.now c.args.plan.now.streams.now calls stands).0 refl,
+  λ net streams calls stands. (c.in-Err.ensures.refused net streams calls stands).0 refl,
 )
