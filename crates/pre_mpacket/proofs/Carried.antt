@@ -2,6 +2,7 @@
 use Rattle.std.proofs.Common.{ℕ, suc, ◌≡◌, ◌≤◌, ◌<◌, ◌+◌, ◌-◌, List, [], ◌∷◌, ◌++◌, length, take, drop, refl, sym, ◌∙◌, ap, inr, arith, subst, Option, Some, None, append_assoc, length-append}
 use Rattle.std.specs.Prelude.{◌↔◌, true, slice_get, option_and_then}
 use Rattle.std.proofs.lemmas.List.{append-nil}
+use Rattle.pre_base.specs.declared.limits.TheConstants.{GREATEST_DATA}
 use Rattle.pre_crc.specs.Checks.{Fcs, Mcrc}
 use Rattle.pre_crc.specs.CheckFacts.{length-Fcs}
 use Rattle.pre_mpacket.specs.Spelling.{PlainPacket, mpacket_of}
@@ -89,7 +90,7 @@ module _ (A : List (Option (List ℕ))) where
       four_octets (Some (Some octets)) is = (given_spells m octets is).whole.check
 
   module _ (j i add_frag : ℕ) (user : List ℕ) (le : j ≤ i) (first : HasKind A is_fragment j) (last : HasKind A is_fragment i)
-      (carries : Carries (user ++ Fcs user) add_frag (Fragments A j i)) (short : length user ≤ 1518) where
+      (carries : Carries (user ++ Fcs user) add_frag (Fragments A j i)) (short : length user ≤ GREATEST_DATA) where
     start : HasKind A is_start j
     start = first_start j i le first carries.sequence
 
@@ -102,7 +103,7 @@ module _ (A : List (Option (List ℕ))) where
 
     gives_frame : Gives A i (Given.frame (user ++ Fcs user))
     gives_frame =
-        let chain : Chain A j i = (le, start, last, (carries.sequence, subst (λ l. length l ≤ 1518) (sym ending.0) short, carries.checked)) in
+        let chain : Chain A j i = (le, start, last, (carries.sequence, subst (λ l. length l ≤ GREATEST_DATA) (sym ending.0) short, carries.checked)) in
         (last.0, last.1, inr (user, (j, chain, sym ending.0), ending.1, ap (λ l. user ++ l) (sym ending.1)))
 
     pub frame_alone : (g : Given) → Gives A i g ↔ (g ≡ Given.frame (user ++ Fcs user))
@@ -115,7 +116,7 @@ module _ (A : List (Option (List ℕ))) where
         let after = last_fragment (suc k) i last.0 (omega (arith, below)) last.1 last.2 in
         let all : Fragments A j i ≡ (front.0 ++ here.0 ∷ []) ++ Fragments A (suc k) i = split ∙ ap (λ l. l ++ Fragments A (suc k) i) front.1 in
         let checked = part_checked front.0 (Fragments A (suc k) i) here.0 after.0 last.0 after.1 (subst (IsChecked []) all carries.checked) in
-        let fits : length (Data A j k) ≤ 1518 = omega (arith, short, ap length ending.0, ap (λ l. length (joined l)) split, ap length (joined-append (Fragments A j k) (Fragments A (suc k) i)), length-append (Data A j k) (joined (Fragments A (suc k) i))) in
+        let fits : length (Data A j k) ≤ GREATEST_DATA = omega (arith, short, ap length ending.0, ap (λ l. length (joined l)) split, ap length (joined-append (Fragments A j k) (Fragments A (suc k) i)), length-append (Data A j k) (joined (Fragments A (suc k) i))) in
         let chain : Chain A j k = (
           low,
           start,
