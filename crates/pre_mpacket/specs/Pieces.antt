@@ -1,6 +1,6 @@
 -- The pieces that carry a frame, and where a fragment is cut (IEEE 802.3, 99.4).
 use Rattle.std.specs.Prelude.{◌≡◌, ◌⊎◌, ℕ, ◌+◌, ◌-◌, ◌*◌, ◌%◌, ◌≤◌, List, [], ◌∷◌, ◌++◌, length, flat_map}
-use Rattle.pre_base.specs.declared.limits.TheConstants.{LEAST_FRAME, CHECK, PREAMBLE}
+use Rattle.pre_base.specs.declared.limits.TheConstants.{LEAST_FRAME, CHECK, HEAD}
 use Rattle.pre_crc.specs.Checks.{Mcrc}
 use Rattle.pre_mpacket.specs.declared.packets.Kind.TheVariants as kind
 use Rattle.pre_mpacket.specs.Spelling.{PlainPacket, Spells}
@@ -72,7 +72,7 @@ pub record Begun : Type 0 where
 module _ (Waits : ℕ → Type 0) (b : Begun) where
   -- The fragment may be cut after d octets of mData.
   abbrev pub IsBoundary : ℕ → Type 0
-  IsBoundary d = (least_fragment b.add_frag ≤ d) × (LEAST_FRAME ≤ b.unsent - d) × Waits (b.tick + b.octet_ticks * (PREAMBLE + d))
+  IsBoundary d = (least_fragment b.add_frag ≤ d) × (LEAST_FRAME ≤ b.unsent - d) × Waits (b.tick + b.octet_ticks * (HEAD + d))
 
   -- The fragment is cut at its first boundary, and where there is none it is the last one of its frame.
   abbrev pub CutRule : ℕ → Type 0

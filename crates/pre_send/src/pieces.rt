@@ -6,7 +6,7 @@ ghost use Rattle.pre_rings.specs.Stores.{HoldsFrame};
 ghost use Rattle.pre_send.specs.Cuts.{IsFirstCut};
 ghost use Rattle.pre_send.specs.Sendings.{octets_at};
 
-use pre_base::{CHECK, LEAST_FRAME, PREAMBLE};
+use pre_base::{CHECK, HEAD, LEAST_FRAME};
 use pre_crc::Running;
 use pre_mpacket::Kind;
 use pre_rings::{FrameRef, FrameStore};
@@ -143,7 +143,7 @@ pub(crate) fn first_cut(began: u64, waits: u64, cost: u64, add_frag: u8, unsent:
     ensures { IsFirstCut began waits cost add_frag unsent result }
 {
     let least = u64::from(LEAST_FRAME) * (1 + u64::from(add_frag)) - u64::from(CHECK);
-    let mdata = least.max(octets_by(began, waits, cost).saturating_sub(u64::from(PREAMBLE)));
+    let mdata = least.max(octets_by(began, waits, cost).saturating_sub(HEAD));
     if mdata + u64::from(LEAST_FRAME) <= u64::from(unsent) {
         Some(mdata as u16)
     } else {

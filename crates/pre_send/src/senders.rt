@@ -8,7 +8,7 @@ ghost use Rattle.pre_send.specs.Sendings.{octets_at};
 use crate::choices::{Choice, Sent};
 use crate::going::{Going, Task};
 use crate::pieces::{Piece, part_of};
-use pre_base::{FrameNo, GAP, PREAMBLE, Tick};
+use pre_base::{FrameNo, GAP, HEAD, Tick};
 use pre_crc::Running;
 use pre_mpacket::Kind;
 use pre_rings::{FrameRef, FrameStore};
@@ -73,7 +73,7 @@ impl Sender {
             Some(_) => false,
             None => match self.last {
                 None => true,
-                Some(last) => last + u64::from(GAP) * self.cost <= now.0,
+                Some(last) => last + GAP * self.cost <= now.0,
             },
         }
     }
@@ -87,7 +87,7 @@ impl Sender {
         }
         match self.last {
             None => Some(Tick(0)),
-            Some(last) => Some(Tick(last + u64::from(GAP) * self.cost)),
+            Some(last) => Some(Tick(last + GAP * self.cost)),
         }
     }
 
@@ -98,7 +98,7 @@ impl Sender {
         ensures exact { (cost add_frag : ℕ) (calls : List Call) → Stands self.now cost add_frag calls → EndsAt cost add_frag calls result }
     {
         let going = self.going.as_ref()?;
-        Some(Tick(going.began + self.cost * (u64::from(PREAMBLE) + u64::from(going.size()))))
+        Some(Tick(going.began + self.cost * (HEAD + u64::from(going.size()))))
     }
 
     /// The frame that is interrupted, and the place where it goes on; None exactly where none is.

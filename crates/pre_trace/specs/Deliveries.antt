@@ -1,7 +1,7 @@
 -- Runs in which each frame goes whole over each arc of its route and arrives as it was sent: what their deliveries say,
 -- and that a frame comes to a ring of each arc once.
 use Rattle.std.specs.Prelude.{ℕ, ◌<◌, ◌≤◌, ◌≡◌, ◌≢◌, false, List, [], length, All, AllPairs, Contains}
-use Rattle.pre_base.specs.declared.limits.TheConstants.{GREATEST_FRAME}
+use Rattle.pre_base.specs.declared.limits.TheConstants.{LEAST_FRAME, GREATEST_FRAME}
 use Rattle.pre_topo.specs.declared.arcs.Mode.TheVariants as mode
 use Rattle.pre_trace.specs.Scenario.{Scenario, arc, row, send, FrameOf}
 use Rattle.pre_trace.specs.History.{History}
@@ -18,8 +18,8 @@ pub record IsDirect (w : Scenario) : Type 0 where
   -- no mPacket is lost or damaged
   pub losses : w.script.losses ≡ []
   pub damages : w.script.damages ≡ []
-  -- frames have 64 to GREATEST_FRAME octets
-  pub sizes : (f : ℕ) → f < length w.script.sends → (64 ≤ (send w f).send.size) × ((send w f).send.size ≤ GREATEST_FRAME)
+  -- frames have their size
+  pub sizes : (f : ℕ) → f < length w.script.sends → (LEAST_FRAME ≤ (send w f).send.size) × ((send w f).send.size ≤ GREATEST_FRAME)
 
 -- Each delivery has the octets of the frame that it names, which was sent by then, and no two deliveries name one frame.
 pub record DeliversOnce (w : Scenario) (h : History) : Type 0 where
