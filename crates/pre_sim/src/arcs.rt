@@ -279,7 +279,7 @@ pub(crate) fn start_on<W: Watcher>(
     let number = frame.frame;
     let ord = lane.begun;
     lane.begun = ord.saturating_add(1);
-    let duration = link.cost * (HEAD + u64::from(frame.size));
+    let duration = link.cost * (u64::from(frame.size) + HEAD);
     lane.sending = Some(Sending {
         frame,
         ord,

@@ -7,12 +7,18 @@ mod laws;
 mod timed;
 mod wheel;
 
-pub use laws::skipping_law;
+pub use laws::{machines_stay, skipping_law};
 pub use timed::Timed;
 pub use wheel::Wheel;
 
 #[cfg(test)]
 mod tests {
+    ghost use Rattle.std.specs.Prelude.{◌≡◌, ℕ, ◌<◌};
+    ghost use Rattle.std.specs.Option.{option_map};
+    ghost use Rattle.std.specs.FinMap as map;
+    ghost use Rattle.pre_wheel.specs.Dues.{Dues, IsLeast};
+    ghost use Rattle.pre_wheel.specs.Until.{is_over};
+
     use super::*;
     use pre_base::Tick;
     use std::test::Fail;
@@ -23,20 +29,31 @@ mod tests {
         at: Option<Tick>,
     }
 
+    // It tells whether it rings: from the tick on at which it is set.
     impl Timed for Alarm {
-        ghost use Rattle.pre_wheel.specs.Until.{IsBefore};
+        ghost use Rattle.std.specs.Prelude.{Bool};
+        ghost use Rattle.pre_wheel.specs.Until.{is_over, is_over-before};
 
         ghost last = { λ a. a.called.0 };
 
         ghost falls_due = { λ a. a.at };
 
-        ghost still = { λ a t. IsBefore t a.at };
+        ghost Told = { Bool };
+
+        ghost told = { λ a t. is_over a.at t };
 
         fn due(&self) -> Option<Tick> {
             self.at
         }
 
-        ghost stays = { λ a t later before. before };
+        ghost stays = { λ a t later before. is_over-before a.at a.called.0 t later before };
+    }
+
+    // An alarm on a wheel rings at no tick below the least entry's where it didn't ring before.
+    fn alarms_stay()
+        ensures { (dues : Dues) (first tick member t : ℕ) (a : Alarm) → IsLeast dues first tick → map.get dues.due member ≡ option_map (λ d. d.0) a.at → a.called.0 < t → t < tick → is_over a.at t ≡ is_over a.at a.called.0 }
+    {
+        machines_stay::<Alarm>();
     }
 
     #[test]
@@ -46,6 +63,7 @@ mod tests {
             at: Some(Tick(8)),
         };
         assert_eq!(rt; alarm.due(), Some(Tick(8)));
+        alarms_stay();
     }
 
     // Two members at one tick, one member that is set twice, and one whose tick is taken away.
