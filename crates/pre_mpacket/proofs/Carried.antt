@@ -1,15 +1,16 @@
 -- Pieces that carry a frame give it.
-use Rattle.std.proofs.Common.{ℕ, suc, ◌≡◌, ◌≤◌, ◌<◌, ◌+◌, ◌-◌, List, [], ◌∷◌, ◌++◌, length, take, drop, refl, sym, ◌∙◌, ap, inr, arith, subst, Option, Some, None, append_assoc, length-append}
-use Rattle.std.specs.Prelude.{◌↔◌, true, slice_get, option_and_then}
+use Rattle.std.proofs.Common.{ℕ, suc, ◌≡◌, ◌≤◌, ◌<◌, ◌+◌, ◌-◌, List, [], ◌∷◌, ◌++◌, length, take, drop, refl, sym, ◌∙◌, ap, inr, arith, subst, Option, Some, append_assoc, length-append}
+use Rattle.std.specs.Prelude.{◌↔◌, true}
 use Rattle.std.proofs.lemmas.List.{append-nil}
 use Rattle.pre_base.specs.declared.limits.TheConstants.{GREATEST_DATA}
 use Rattle.pre_crc.specs.Checks.{Fcs, Mcrc}
 use Rattle.pre_crc.specs.CheckFacts.{length-Fcs}
-use Rattle.pre_mpacket.specs.Spelling.{PlainPacket, mpacket_of}
+use Rattle.pre_mpacket.specs.Spelling.{PlainPacket}
 use Rattle.pre_mpacket.specs.Pieces.{joined, last_check, IsContinued, IsSequence, IsChecked, Carries}
 use Rattle.pre_mpacket.specs.Arrivals.{Given, is_start, is_fragment, fragments_of, HasKind, Spelled, Fragments, Data, Chain, Gives}
 use Rattle.pre_mpacket.proofs.Chains.{first_fragment, fragments_split, gives_one}
-use Rattle.pre_mpacket.proofs.Spelled.{given_spells, take-front, drop-front}
+use Rattle.pre_mpacket.proofs.Spelled.{take-front, drop-front}
+use Rattle.pre_mpacket.proofs.FrameSizes.{spelled_whole}
 
 -- ---- lists of pieces
 
@@ -81,14 +82,6 @@ module _ (A : List (Option (List ℕ))) where
       let seq = subst IsSequence first sequence in
       (m, at, ap is_start seq.1.0)
 
-  check_is_four : (i : ℕ) (m : PlainPacket) → Spelled A i ≡ Some m → length m.check ≡ 4
-  check_is_four i m at = four_octets (slice_get A i) at
-    where
-      four_octets : (o : Option (Option (List ℕ))) → option_and_then (λ a. option_and_then mpacket_of a) o ≡ Some m → length m.check ≡ 4
-      four_octets None is = absurd (cc is)
-      four_octets (Some None) is = absurd (cc is)
-      four_octets (Some (Some octets)) is = (given_spells m octets is).whole.check
-
   module _ (j i add_frag : ℕ) (user : List ℕ) (le : j ≤ i) (first : HasKind A is_fragment j) (last : HasKind A is_fragment i)
       (carries : Carries (user ++ Fcs user) add_frag (Fragments A j i)) (short : length user ≤ GREATEST_DATA) where
     start : HasKind A is_start j
@@ -99,7 +92,7 @@ module _ (A : List (Option (List ℕ))) where
         let front = last_fragment j i last.0 le last.1 last.2 in
         let check : last_check (Fragments A j i) ≡ last.0.check = ap last_check front.1 ∙ last_check-append front.0 last.0 in
         let whole : Data A j i ++ last.0.check ≡ user ++ Fcs user = ap (λ l. Data A j i ++ l) (sym check) ∙ carries.whole in
-        ends_same (Data A j i) user last.0.check (Fcs user) (check_is_four i last.0 last.1 ∙ sym (length-Fcs user)) whole
+        ends_same (Data A j i) user last.0.check (Fcs user) ((spelled_whole A i last.0 last.1).check ∙ sym (length-Fcs user)) whole
 
     gives_frame : Gives A i (Given.frame (user ++ Fcs user))
     gives_frame =

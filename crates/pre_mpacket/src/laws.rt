@@ -1,5 +1,5 @@
 ghost use Rattle.std.specs.Prelude.{◌≡◌, ◌↔◌, ◌<◌, ◌≤◌, ◌+◌, ◌-◌, ◌%◌, ◌++◌, ◌∷◌, [], ℕ, List, Option, length, map, Contains};
-ghost use Rattle.pre_base.specs.declared.limits.TheConstants.{GREATEST_DATA};
+ghost use Rattle.pre_base.specs.declared.limits.TheConstants.{LEAST_FRAME, GREATEST_FRAME, GREATEST_DATA};
 ghost use Rattle.pre_mpacket.specs.declared.packets.Kind.TheVariants.{Start, Continue};
 ghost use Rattle.pre_mpacket.specs.Spelling.{PlainPacket, Spells, mpacket_of};
 ghost use Rattle.pre_mpacket.specs.Pieces.{Begun, CutRule, Carries, SpellEach};
@@ -24,6 +24,11 @@ pub fn one_size()
 /// An arrival gives one thing at most.
 pub fn one_given()
     ensures { (A : List (Option (List ℕ))) (i : ℕ) (g h : Given) → Gives A i g → Gives A i h → g ≡ h }
+{}
+
+/// A frame that an arrival gives has the size of a frame.
+pub fn frames_have_their_size()
+    ensures { (A : List (Option (List ℕ))) (i : ℕ) (octets : List ℕ) → Gives A i (Given.frame octets) → (LEAST_FRAME ≤ length octets) × (length octets ≤ GREATEST_FRAME) }
 {}
 
 /// What an arrival gives doesn't change with later ones.
