@@ -14,7 +14,7 @@ not_later : {X : Type 0} (P : X → Type 0) (y : X) (ys : List X) → ¬ P y →
 not_later P y ys first none zero x at p = first (subst P (sym (cc at)) p)
 not_later P y ys first none (suc i) x at p = none i x at p
 
-any_decided : {X : Type 0} (P : X → Type 0) → ((x : X) → P x ⊎ ¬ P x) → (xs : List X) → ((i : ℕ) × (x : X) × (slice_get xs i ≡ Some x) × P x) ⊎ ((i : ℕ) (x : X) → slice_get xs i ≡ Some x → ¬ P x)
+pub any_decided : {X : Type 0} (P : X → Type 0) → ((x : X) → P x ⊎ ¬ P x) → (xs : List X) → ((i : ℕ) × (x : X) × (slice_get xs i ≡ Some x) × P x) ⊎ ((i : ℕ) (x : X) → slice_get xs i ≡ Some x → ¬ P x)
 any_decided P decided [] = inr (λ i x at p. absurd (cc at))
 any_decided P decided (y ∷ ys) = elim (decided y) [
   | inl p ↦ inl (0, y, refl, p)

@@ -11,7 +11,7 @@ use Rattle.pre_history.specs.Placed.{IsLater, AllLater}
 use Rattle.pre_history.proofs.Lists.{any_at, found_at, at_front, every_selected, every_filter, every_at}
 use Rattle.pre_history.proofs.Free.{packet_at}
 
-begin_later : (a t : ℕ) (e : PlainEvent) (b : Begin) → IsLater t e → begin_on a e ≡ Some b → t ≤ b.tick
+pub begin_later : (a t : ℕ) (e : PlainEvent) (b : Begin) → IsLater t e → begin_on a e ≡ Some b → t ≤ b.tick
 begin_later a t (PlainEvent.begin c) b later is = go (c.arc == a) is
   where
     go : (same : Bool) → (if same then Some c else None) ≡ Some b → t ≤ b.tick
@@ -27,7 +27,7 @@ begin_later a t (PlainEvent.dropped c) b later is = absurd (cc is)
 begin_later a t (PlainEvent.count s c) b later is = absurd (cc is)
 begin_later a t (PlainEvent.end c) b later is = absurd (cc is)
 
-end_later : (a t : ℕ) (e : PlainEvent) (b : Ended) → IsLater t e → ended_on a e ≡ Some b → t < b.tick
+pub end_later : (a t : ℕ) (e : PlainEvent) (b : Ended) → IsLater t e → ended_on a e ≡ Some b → t < b.tick
 end_later a t (PlainEvent.ended c) b later is = go (c.arc == a) is
   where
     go : (same : Bool) → (if same then Some c else None) ≡ Some b → t < b.tick

@@ -96,7 +96,7 @@ cut_like W V b size some to from (inr (none, is)) =
       is,
     )
 
-waits_like : (w : Scenario) (g h : History) (a t : ℕ) → ((p : ℕ) → Waiting g a p t ≡ Waiting h a p t) → ExpressWaits w g a t → ExpressWaits w h a t
+pub waits_like : (w : Scenario) (g h : History) (a t : ℕ) → ((p : ℕ) → Waiting g a p t ≡ Waiting h a p t) → ExpressWaits w g a t → ExpressWaits w h a t
 waits_like w g h a t same (p, from, to, some) = (p, from, to, λ none. some (same p ∙ none))
 
 -- Events after an mPacket's end leave its size as it is.

@@ -78,7 +78,7 @@ untold c s t lt (PlainEvent.dropped e) later = refl
 untold c s t lt (PlainEvent.count b c') later = refl
 untold c s t lt (PlainEvent.end e) later = refl
 
-arrival_unread : (r t : ℕ) (e : PlainEvent) (x : Arrive) → IsUnread t e → arrive_on r e ≡ Some x → t < x.tick
+pub arrival_unread : (r t : ℕ) (e : PlainEvent) (x : Arrive) → IsUnread t e → arrive_on r e ≡ Some x → t < x.tick
 arrival_unread r t (PlainEvent.arrive c) x later is = go (c.arc == r) is
   where
     go : (same : Bool) → (if same then Some c else None) ≡ Some x → t < x.tick
@@ -111,7 +111,7 @@ begin_unread a t (PlainEvent.count s c) b later is = absurd (cc is)
 begin_unread a t (PlainEvent.end c) b later is = absurd (cc is)
 
 -- what an arrival gives where the arrivals up to it are the same
-gives_like : LaterGives → (A B : List (Option (List ℕ))) (i : ℕ) (g : Given) → i < length A → i < length B → ((k : ℕ) → k ≤ i → slice_get A k ≡ slice_get B k) → Gives A i g → Gives B i g
+pub gives_like : LaterGives → (A B : List (Option (List ℕ))) (i : ℕ) (g : Given) → i < length A → i < length B → ((k : ℕ) → k ≤ i → slice_get A k ≡ slice_get B k) → Gives A i g → Gives B i g
 gives_like later A B i g lt lt' same gives =
     let front : take (suc i) A ≡ take (suc i) B = take_like (suc i) A B (omega (arith, lt)) (omega (arith, lt')) (λ k k_lt. same k (omega (arith, k_lt))) in
     let whole : Gives (take (suc i) A ++ drop (suc i) A) i g = subst (λ xs. Gives xs i g) (sym (take-append-drop (suc i) A)) gives in
@@ -121,7 +121,7 @@ gives_like later A B i g lt lt' same gives =
     subst (λ xs. Gives xs i g) (take-append-drop (suc i) B) ((later (take (suc i) B) (drop (suc i) B) i g inside').1 now)
 
 -- an mPacket that ended arrives the same, where what it carries is the same
-arrives_like : (w : Scenario) (h es : History) (r : ℕ) (b : Begin) (e : Ended) → end_of h r b.ord ≡ Some e → ToldActive w (h ++ es) b.arc b.tick ≡ ToldActive w h b.arc b.tick
+pub arrives_like : (w : Scenario) (h es : History) (r : ℕ) (b : Begin) (e : Ended) → end_of h r b.ord ≡ Some e → ToldActive w (h ++ es) b.arc b.tick ≡ ToldActive w h b.arc b.tick
     → Arrived w (h ++ es) (packet (h ++ es) r b) ≡ Arrived w h (packet h r b)
 arrives_like w h es r b e ended told =
     let more : filter (λ (x : Ended). x.ord == b.ord) (Ends (h ++ es) r) ≡ filter (λ (x : Ended). x.ord == b.ord) (Ends h r) ++ filter (λ (x : Ended). x.ord == b.ord) (Ends es r)
@@ -324,7 +324,7 @@ reverse_within w a lt = go (a % 2 == 0) refl
     go true is = let even : a % 2 ≡ 0 = grind (arith, nat_tests) in omega (arith, lt, even, w.net.rules.arc_count.2)
     go false is = omega (arith, lt)
 
-later_unread : (t : ℕ) (e : PlainEvent) → IsLater t e → IsUnread t e
+pub later_unread : (t : ℕ) (e : PlainEvent) → IsLater t e → IsUnread t e
 later_unread t (PlainEvent.begin b) later = later
 later_unread t (PlainEvent.ended e) later = later
 later_unread t (PlainEvent.arrive x) later = later

@@ -17,3 +17,7 @@ pub mod Ordered
 pub mod Deliveries
 pub mod Written
 pub mod Examples
+pub mod Cuts
+pub mod Stays
+pub mod Read
+pub mod Next

@@ -1,28 +1,36 @@
-ghost use Rattle.std.specs.Prelude.{◌↔◌, ◌≡◌, ◌≢◌, ◌⊎◌, ℕ, ◌+◌, ◌*◌, ◌<◌, ◌++◌, [], length, ◌≤◌, slice_get, All, AllPairs, Some, List, Bool, false};
+ghost use Rattle.std.specs.Prelude.{◌↔◌, ◌≡◌, ◌≢◌, ◌⊎◌, ℕ, ◌+◌, ◌*◌, ◌<◌, ◌++◌, [], length, ◌≤◌, slice_get, All, AllPairs, Some, List, Bool, false, Option, true};
 ghost use Rattle.std.specs.Bool.{Decides};
 ghost use Rattle.pre_base.specs.declared.numbers.FrameNo.{FrameNo};
 ghost use Rattle.pre_lldp.specs.Ages.{CountsEnabled, Heard};
 ghost use Rattle.pre_lldp.specs.LinkState.{is_verified, is_verify_wanted};
 ghost use Rattle.pre_lldp.specs.LldpLayout.{is_lldp_frame};
-ghost use Rattle.pre_mpacket.specs.Arrivals.{Given, Gives};
+ghost use Rattle.pre_mpacket.specs.Arrivals.{Given, Gives, GivesNothing};
 ghost use Rattle.pre_mpacket.specs.Pieces.{CutRule, IsBoundary};
-ghost use Rattle.pre_script.specs.declared.scripts.Setting.TheVariants as setting;
-ghost use Rattle.pre_topo.specs.declared.arcs.Mode.TheVariants as mode;
-ghost use Rattle.pre_history.specs.declared.events.What.TheVariants as what;
 ghost use Rattle.pre_history.specs.Octets.{Air, ToldActive};
 ghost use Rattle.pre_history.specs.Deliveries.{ComeOnce, DeliversOnce, IsDirect, IsPlain};
-ghost use Rattle.pre_history.specs.Comings.{Comings};
+ghost use Rattle.pre_history.specs.Comings.{Comings, Coming, entry_for};
 ghost use Rattle.pre_history.specs.Examples.{SendsOneFrame, SendsTwoFrames, one_frame, two_frames};
-ghost use Rattle.pre_history.specs.History.{Begin, Ended, History};
-ghost use Rattle.pre_history.specs.Legal.{Alias, CountLines, Legal, LegalUpTo};
-ghost use Rattle.pre_history.specs.LinkState.{Active, AreHeard, Good, RespondTicks, VerifiesBefore, VerifyWanted};
+ghost use Rattle.pre_history.specs.History.{Begin, Ended, History, Delivery, Entry, PlainEvent};
+ghost use Rattle.pre_history.specs.Legal.{Alias, CountLines, Legal, LegalUpTo, FirstAlias, LegalBefore, last_moment};
+ghost use Rattle.pre_history.specs.LinkState.{Active, AreHeard, Good, RespondTicks, VerifiesBefore, VerifyWanted, Falls, LldpWanted, RespondOwed, Rises};
 ghost use Rattle.pre_history.specs.Moments.{Phase, moment_at};
 ghost use Rattle.pre_history.specs.Ordered.{HaveArrived, HaveChecks, HaveSizes, IsOrdered};
 ghost use Rattle.pre_history.specs.Placed.{AllBefore, AllLater, number};
-ghost use Rattle.pre_history.specs.Queries.{Arrivals, Begins, Ends, Entries, Occupied, SettingOf, Waiting};
+ghost use Rattle.pre_history.specs.Queries.{Arrivals, Begins, Ends, Entries, Occupied, SettingOf, Waiting, Interrupted, Rest};
 ghost use Rattle.pre_history.specs.Rules.{Arriving, EndDue, Happens, HappensIn, OneOrNone};
-ghost use Rattle.pre_history.specs.Scenario.{FrameOf, Scenario, arc};
-ghost use Rattle.pre_history.specs.Starts.{ExpressWaits, begun};
+ghost use Rattle.pre_history.specs.Scenario.{FrameOf, Scenario, arc, send};
+ghost use Rattle.pre_history.specs.Starts.{ExpressWaits, begun, Choice, IsFront, Item, SizeOf, StartRule, There, whole_frame};
+ghost use Rattle.pre_history.specs.Next.{AliasNext, FirstAliasAt};
+ghost use Rattle.pre_history.specs.Read.{AreDelivered, HasBegun, HasEnded, HasEntries, HasEntry, HaveResults, IsFromArrival, IsIdle, IsTold};
+ghost use Rattle.pre_mpacket.specs.declared.packets.Kind.{Kind};
+ghost use Rattle.pre_history.specs.Cuts.{AllWithin, IsCut, IsCutAt};
+ghost use Rattle.pre_history.specs.Stays.{SameGiven, SameResults, SameWholes};
+ghost use Rattle.pre_script.specs.declared.scripts.Setting.TheVariants as setting;
+ghost use Rattle.pre_topo.specs.declared.arcs.Mode.TheVariants as mode;
+ghost use Rattle.pre_history.specs.declared.events.What.TheVariants as what;
+ghost use Rattle.pre_mpacket.specs.declared.packets.Kind.TheVariants as kind;
+ghost use Rattle.pre_streams.specs.Fits as streams;
+ghost use Rattle.pre_script.specs.Fits as script;
 
 /// There is at most one legal history of a network, streams and script.
 pub fn one_history()
@@ -155,4 +163,144 @@ pub fn turns_are_kept()
     ensures no_arrival { (w : Scenario) (past : History) (t a : ℕ) → a < length w.net.arcs
         → LegalUpTo w (number (length w.net.arcs) t (1 + length w.net.arcs + a)) past
         → length (Ends past a) ≤ length (Arrivals past a) → HappensIn w past t (Phase.arrivals a) [] }
+{}
+
+/// A history that is legal up to a moment can be cut before each earlier one: its front is legal up to there, and what
+/// follows stands at later moments.
+pub fn legal_histories_are_cut()
+    ensures before { (w : Scenario) (n : ℕ) (h : History) (m : ℕ) → m ≤ n → LegalUpTo w n h
+        → (front : History) × (rest : History) × IsCut w m n h front rest }
+    ensures around { (w : Scenario) (n : ℕ) (h : History) (m : ℕ) → m < n → LegalUpTo w n h
+        → (front : History) × (events : History) × (rest : History) × IsCutAt w m n h front events rest }
+{}
+
+/// Events at later moments don't change what an mPacket carries that began, nor what comes of one that ended.
+pub fn octets_stay()
+    ensures wholes { (w : Scenario) (m n : ℕ) (h g : History) (a : ℕ) → a < length w.net.arcs → LegalUpTo w m h → AllWithin (length w.net.arcs) m n g
+        → SameWholes w (h ++ g) h a }
+    ensures given { (w : Scenario) (m n : ℕ) (h g : History) (a : ℕ) → a < length w.net.arcs → LegalUpTo w m h → AllWithin (length w.net.arcs) m n g
+        → SameGiven w (h ++ g) h a }
+    ensures results { (w : Scenario) (m n : ℕ) (h g : History) (a : ℕ) → a < length w.net.arcs → LegalUpTo w m h → AllWithin (length w.net.arcs) m n g
+        → SameResults w (h ++ g) h a }
+{}
+
+/// Events after a tick don't change the sizes of mPackets that end by then, nor what an arc has to send at the tick.
+pub fn wants_stay()
+    ensures sizes { (w : Scenario) (h g : History) (k : Kind) (b : Begin) (size : ℕ) → 1 ≤ (arc w b.arc).cost
+        → ((t : ℕ) → t < b.tick + (arc w b.arc).cost * (size + 8) → AllLater t g) → SizeOf w (h ++ g) k b size ↔ SizeOf w h k b size }
+    ensures interrupted { (w : Scenario) (h g : History) (a t : ℕ) (left : Rest) → AllLater t g → Interrupted w (h ++ g) a t left ↔ Interrupted w h a t left }
+    ensures good { (w : Scenario) (n : ℕ) (h g : History) (a t : ℕ) → a < length w.net.arcs → LegalUpTo w n h → AllLater t g
+        → Good w (h ++ g) a t ↔ Good w h a t }
+    ensures responds { (w : Scenario) (n : ℕ) (h g : History) (a t : ℕ) → a < length w.net.arcs → LegalUpTo w n h → AllLater t g
+        → RespondOwed w (h ++ g) a t ↔ RespondOwed w h a t }
+    ensures verifies { (w : Scenario) (n : ℕ) (h g : History) (a t : ℕ) → a < length w.net.arcs → (arc w a).mode ≡ mode.Negotiate → LegalUpTo w n h → AllLater t g
+        → VerifyWanted w (h ++ g) a t ↔ VerifyWanted w h a t }
+    ensures lldp { (w : Scenario) (n : ℕ) (h g : History) (a t : ℕ) → a < length w.net.arcs → LegalUpTo w n h → AllLater t g
+        → LldpWanted w (h ++ g) a t ↔ LldpWanted w h a t }
+    ensures later { (arcs t m n : ℕ) (g : History) → number arcs t (2 + 3 * arcs) ≤ m → AllWithin arcs m n g → AllLater t g }
+{}
+
+/// Events after a tick don't change what may begin on an arc at the tick.
+pub fn starts_stay()
+    ensures items { (w : Scenario) (n : ℕ) (h g : History) (a t : ℕ) → a < length w.net.arcs → LegalUpTo w n h → AllLater t g
+        → (i : Item) (c : Choice) → There w (h ++ g) a t i c ↔ There w h a t i c }
+    ensures rule { (w : Scenario) (n : ℕ) (h g : History) (a t : ℕ) → a < length w.net.arcs → LegalUpTo w n h → AllLater t g
+        → (c : Choice) → StartRule w (h ++ g) a t c ↔ StartRule w h a t c }
+{}
+
+/// In a legal history that is told past the starts of a tick, what began on an arc at the tick is what the rule says by the
+/// whole history; and where nothing did, the arc was occupied or nothing was there.
+pub fn starts_are_read()
+    ensures rule { (w : Scenario) (n : ℕ) (h : History) (a t : ℕ) → a < length w.net.arcs → LegalUpTo w n h
+        → number (length w.net.arcs) t (2 + 3 * length w.net.arcs + a) < n → (c : Choice) → HasBegun h a t c ↔ StartRule w h a t c }
+    ensures idle { (w : Scenario) (n : ℕ) (h : History) (a t : ℕ) → a < length w.net.arcs → LegalUpTo w n h
+        → number (length w.net.arcs) t (2 + 3 * length w.net.arcs + a) < n
+        → ((c : Choice) × HasBegun h a t c) ⊎ (((c : Choice) → ¬ HasBegun h a t c) × IsIdle w h a t) }
+{}
+
+/// An mPacket of a legal history whose end by a size is told has ended so exactly if the rules give it that size by the whole
+/// history.
+pub fn ends_are_read()
+    ensures { (w : Scenario) (n : ℕ) (h : History) (a i : ℕ) (b : Begin) (size : ℕ) → a < length w.net.arcs → LegalUpTo w n h
+        → slice_get (Begins h a) i ≡ Some b → number (length w.net.arcs) (b.tick + (arc w a).cost * (size + 8)) (1 + a) < n
+        → HasEnded w h a i size ↔ SizeOf w h b.kind b size }
+{}
+
+/// Each arrival of a legal history has its result by the whole history; a user frame that arrives where its route ends is
+/// delivered, and nothing else is.
+pub fn arrivals_are_read()
+    ensures results { (w : Scenario) (n : ℕ) (h : History) (a : ℕ) → a < length w.net.arcs → LegalUpTo w n h → HaveResults w h a }
+    ensures delivered { (w : Scenario) (n : ℕ) (h : History) (a : ℕ) → a < length w.net.arcs → LegalUpTo w n h → AreDelivered w h a }
+    ensures only { (w : Scenario) (n : ℕ) (h : History) (d : Delivery) → LegalUpTo w n h → IsTold h (PlainEvent.deliver d) → IsFromArrival w h d }
+{}
+
+/// In a legal history that is told past the expiries of an arc at a tick, an `active` event of the arc stands there exactly
+/// where Active differs from the tick before, by the whole history.
+pub fn expiries_are_read()
+    ensures rises { (w : Scenario) (n : ℕ) (h : History) (a t : ℕ) → a < length w.net.arcs → (arc w a).mode ≡ mode.Negotiate → LegalUpTo w n h
+        → number (length w.net.arcs) t (1 + 2 * length w.net.arcs + a) < n → IsTold h (PlainEvent.active t a true) ↔ Rises w h a t }
+    ensures falls { (w : Scenario) (n : ℕ) (h : History) (a t : ℕ) → a < length w.net.arcs → (arc w a).mode ≡ mode.Negotiate → LegalUpTo w n h
+        → number (length w.net.arcs) t (1 + 2 * length w.net.arcs + a) < n → IsTold h (PlainEvent.active t a false) ↔ Falls w h a t }
+    ensures quiet { (w : Scenario) (n : ℕ) (h : History) (a t : ℕ) → a < length w.net.arcs → (arc w a).mode ≢ mode.Negotiate → LegalUpTo w n h
+        → number (length w.net.arcs) t (1 + 2 * length w.net.arcs + a) < n → (v : Bool) → ¬ IsTold h (PlainEvent.active t a v) }
+{}
+
+/// In a legal history that is told past the entries of a tick, what came to rings at the tick is what comes by the whole
+/// history: each entered, or was dropped where its ring held its capacity.
+pub fn entries_are_read()
+    ensures all { (w : Scenario) (n : ℕ) (h : History) (t : ℕ) → LegalUpTo w n h
+        → number (length w.net.arcs) t (1 + 3 * length w.net.arcs) < n → HasEntries w h t }
+    ensures each { (w : Scenario) (n : ℕ) (h : History) (t : ℕ) → LegalUpTo w n h
+        → number (length w.net.arcs) t (1 + 3 * length w.net.arcs) < n
+        → (j : ℕ) (c : Coming) → slice_get (Comings w h t) j ≡ Some c → HasEntry w h t j c }
+    ensures only { (w : Scenario) (n : ℕ) (h : History) (t : ℕ) → LegalUpTo w n h
+        → number (length w.net.arcs) t (1 + 3 * length w.net.arcs) < n
+        → (e : Entry) → e.tick ≡ t → IsTold h (PlainEvent.enter e) ⊎ IsTold h (PlainEvent.dropped e)
+        → (j : ℕ) × (c : Coming) × (slice_get (Comings w h t) j ≡ Some c) × (entry_for w t c ≡ e) }
+{}
+
+/// In a legal history that is told past the starts of a tick, an express frame that waits at an arc that isn't occupied begins, of
+/// those in front the one of the highest priority; and an arc is occupied only for an mPacket that began, until its size, its head
+/// of eight octets and a gap of twelve are over.
+pub fn express_frames_begin()
+    ensures begins { (w : Scenario) (n : ℕ) (h : History) (a t : ℕ) → a < length w.net.arcs → LegalUpTo w n h
+        → number (length w.net.arcs) t (2 + 3 * length w.net.arcs + a) < n → ExpressWaits w h a t → ¬ Occupied w h a t
+        → (f : ℕ) × IsFront w h a t w.net.express_from 8 f × HasBegun h a t (whole_frame f kind.Express) }
+    ensures busy { (w : Scenario) (n : ℕ) (h : History) (a t : ℕ) → a < length w.net.arcs → LegalUpTo w n h
+        → number (length w.net.arcs) t (2 + 3 * length w.net.arcs + a) < n → Occupied w h a t
+        → (i : ℕ) × (b : Begin) × (size : ℕ) × (slice_get (Begins h a) i ≡ Some b) × (b.tick < t) × SizeOf w h b.kind b size
+        × (t < b.tick + (arc w a).cost * (size + 8) + 12 * (arc w a).cost) }
+{}
+
+/// It is decided what an arrival gives.
+pub fn given_is_decided()
+    ensures { (A : List (Option (List ℕ))) (i : ℕ) → ((g : Given) × Gives A i g) ⊎ GivesNothing A i }
+{}
+
+/// In a legal history it is decided whether an arc is good and active at a tick, what of each kind there is to begin, and what begins.
+pub fn starts_are_decided()
+    ensures good { (w : Scenario) (n : ℕ) (h : History) (a t : ℕ) → a < length w.net.arcs → LegalUpTo w n h → Good w h a t ⊎ ¬ Good w h a t }
+    ensures active { (w : Scenario) (n : ℕ) (h : History) (a t : ℕ) → a < length w.net.arcs → LegalUpTo w n h → Active w h a t ⊎ ¬ Active w h a t }
+    ensures items { (w : Scenario) (n : ℕ) (h : History) (a t : ℕ) → a < length w.net.arcs → LegalUpTo w n h
+        → (i : Item) → ((c : Choice) × There w h a t i c) ⊎ ((c : Choice) → ¬ There w h a t i c) }
+    ensures rule { (w : Scenario) (n : ℕ) (h : History) (a t : ℕ) → a < length w.net.arcs → LegalUpTo w n h
+        → ((c : Choice) × StartRule w h a t c) ⊎ ((c : Choice) → ¬ StartRule w h a t c) }
+{}
+
+/// A legal history goes on with the next moment, or the next arrival is an alias. It is decided of each mPacket that ended
+/// whether it arrives as one.
+pub fn histories_go_on()
+    ensures next { (w : Scenario) (n : ℕ) (h : History) → LegalUpTo w n h
+        → ((es : List PlainEvent) × Happens w h (moment_at (length w.net.arcs) n) es) ⊎ ((a i : ℕ) × AliasNext w h n a i) }
+    ensures alias { (w : Scenario) (n : ℕ) (h : History) (a i : ℕ) (b : Begin) (e : Ended) → a < length w.net.arcs → LegalUpTo w n h
+        → slice_get (Begins h a) i ≡ Some b → slice_get (Ends h a) i ≡ Some e → Alias w h a i ⊎ ¬ Alias w h a i }
+{}
+
+/// Each network, streams and script has a legal history or a first alias before its last moment, and never both; so it is up
+/// to each moment.
+pub fn legal_or_alias()
+    ensures before { (w : Scenario) (n : ℕ) → ((h : History) × LegalBefore w h n) ⊎ ((m : ℕ) × (h : History) × (a : ℕ) × (i : ℕ) × (m < n) × FirstAliasAt w h m a i) }
+    ensures whole { (w : Scenario) → ((h : History) × Legal w h) ⊎ ((m : ℕ) × (h : History) × (a : ℕ) × (i : ℕ) × (m < last_moment w) × FirstAliasAt w h m a i) }
+    ensures never_both { (w : Scenario) (h g : History) (m a i : ℕ) → Legal w h → m < last_moment w → ¬ FirstAliasAt w g m a i }
+    ensures is_first { (w : Scenario) (h : History) (m a i : ℕ) → FirstAliasAt w h m a i → FirstAlias w h a i }
 {}
