@@ -6,7 +6,8 @@ use Rattle.pre_base.specs.Sinks.{Taken}
 use Rattle.pre_topo.specs.declared.network.Network.{Network}
 use Rattle.pre_history.specs.Scenario.{Scenario}
 use Rattle.pre_history.specs.History.{PlainEvent, History}
-use Rattle.pre_history.specs.Written.{IsWritten, AreWritten, IsWritten-of, AreWritten-of}
+use Rattle.pre_history.specs.Written.{IsWritten, AreWritten}
+use Rattle.pre_history.proofs.WrittenEvents.{IsWritten-of, AreWritten-of}
 use Rattle.pre_trace.specs.Text.{line, text}
 use Rattle.pre_trace.specs.Watching.{HoldsText, HoldsTorn}
 use Rattle.pre_history.specs.Deliveries.{DeliversOnce}

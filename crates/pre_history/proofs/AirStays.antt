@@ -21,7 +21,7 @@ use Rattle.pre_history.proofs.Stays.{told_same, whole_told}
 use Rattle.pre_history.proofs.Undamaged.{air_at}
 use Rattle.pre_history.proofs.InOrder.{steady}
 use Rattle.pre_history.proofs.Unread.{gives_like, arrives_like}
-use Rattle.pre_history.specs.Cuts.{IsWithin, AllWithin}
+use Rattle.pre_history.specs.Placed.{IsWithin, AllWithin}
 use Rattle.pre_history.proofs.Places.{later_tick}
 use Rattle.pre_history.proofs.Known.{gives_later}
 

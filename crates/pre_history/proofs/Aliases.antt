@@ -17,7 +17,7 @@ use Rattle.pre_history.proofs.Lists.{any_at, found_at, at_front, one_at, there}
 use Rattle.pre_history.proofs.Free.{packet_at}
 use Rattle.pre_history.proofs.LaterEnds.{packet_back}
 use Rattle.pre_history.proofs.InOrder.{steady}
-use Rattle.pre_history.specs.Cuts.{AllWithin}
+use Rattle.pre_history.specs.Placed.{AllWithin}
 use Rattle.pre_history.proofs.AirStays.{gives_stays, whole_stays}
 use Rattle.pre_history.proofs.Decisions.{IsDecided, negated, alike, equal, equal_lists}
 use Rattle.pre_history.proofs.GivenDecided.{gives_decided, is_verify_kind, is_respond_kind}
@@ -27,43 +27,23 @@ use Rattle.pre_history.proofs.Known.{one_given}
 abbrev pub IsLastBy : (whole : List ℕ) → Begin → Ended → List ℕ → Type 0
 IsLastBy whole b e octets = (b.what ≢ what.Nothing) × (octets ≡ whole) × (b.from + e.size ≡ length octets)
 
-module _ (w : Scenario) (n : ℕ) (h : History) (legal : LegalUpTo w n h) (a : ℕ) (a_lt : a < length w.net.arcs) (i : ℕ) (b : Begin) (e : Ended) (at_b : slice_get (Begins h a) i ≡ Some b) (at_e : slice_get (Ends h a) i ≡ Some e) where
-  begin_is : (k : ℕ) (c : Begin) → slice_get (Begins h a) k ≡ Some c → c.ord ≡ i → c ≡ b
-  begin_is k c at ord =
-      let place = (steady w n h a a_lt legal).ordered.begin_places k c at in
-      let same : k ≡ i = sym place ∙ ord in
-      one_at (Begins h a) i c b (ap (slice_get (Begins h a)) (sym same) ∙ at) at_b
-
-  end_is : (k : ℕ) (d : Ended) → slice_get (Ends h a) k ≡ Some d → d.ord ≡ i → d ≡ e
-  end_is k d at ord =
-      let place = (steady w n h a a_lt legal).ordered.end_places k d at in
-      let same : k ≡ i = sym place ∙ ord in
-      one_at (Ends h a) i d e (ap (slice_get (Ends h a)) (sym same) ∙ at) at_e
-
-  pub kind_is : (k : Kind) → IsOfKind w h a i k ↔ (b.kind ≡ k)
+module _ (w : Scenario) (h : History) (a i : ℕ) (b : Begin) (e : Ended) (at_b : slice_get (Begins h a) i ≡ Some b) (at_e : slice_get (Ends h a) i ≡ Some e) where
+  pub kind_is : (k : Kind) → IsOfKind h a i k ↔ (b.kind ≡ k)
   kind_is k = (
-    (λ (j, c, lt, at, (ord, is)). ap (λ (x : Begin). x.kind) (sym (begin_is j c (found_at (Begins h a) j c lt at) ord)) ∙ is),
-    (λ is. any_at (λ (b : Begin). (b.ord ≡ i) × (b.kind ≡ k)) (Begins h a) i b at_b ((steady w n h a a_lt legal).ordered.begin_places i b at_b, is)),
+    (λ (c, at, is). ap (λ (x : Begin). x.kind) (one_at (Begins h a) i b c at_b at) ∙ is),
+    (λ is. (b, at_b, is)),
   )
 
   pub last_is : (octets : List ℕ) → IsLastOf w h a i octets ↔ IsLastBy (WholeOf w h b) b e octets
   last_is octets = (
-    (λ (k, p, lt, at, (ord, some, is, (j, d, lt', at', (ord', full)))).
-        let o = packet_back h a k p (found_at (Packets h a) k p lt at) in
-        let begins : o.0 ≡ p.begin = ap (λ (x : Packet). x.begin) o.2 in
-        let same : p.begin ≡ b = sym begins ∙ begin_is k o.0 o.1 (ap (λ (x : Begin). x.ord) begins ∙ ord) in
-        let ends : d ≡ e = end_is j d (found_at (Ends h a) j d lt' at') ord' in (
-          subst (λ (x : Begin). x.what ≢ what.Nothing) same some,
-          subst (λ (x : Begin). octets ≡ WholeOf w h x) same is,
-          subst (λ (x : Begin). x.from + e.size ≡ length octets) same (subst (λ (y : Ended). p.begin.from + y.size ≡ length octets) ends full),
+    (λ (c, d, at, at', some, is, full).
+        let begins = one_at (Begins h a) i c b at at_b in
+        let ends = one_at (Ends h a) i d e at' at_e in (
+          subst (λ (x : Begin). x.what ≢ what.Nothing) begins some,
+          subst (λ (x : Begin). octets ≡ WholeOf w h x) begins is,
+          subst (λ (x : Begin). x.from + e.size ≡ length octets) begins (subst (λ (y : Ended). c.from + y.size ≡ length octets) ends full),
         )),
-    (λ (some, is, full). any_at (λ (p : Packet). (p.begin.ord ≡ i) × (p.begin.what ≢ what.Nothing) × (octets ≡ WholeOf w h p.begin) × Any (λ (e : Ended). (e.ord ≡ i) × (p.begin.from + e.size ≡ length octets)) (Ends h a)) (Packets h a) i (packet h a b)
-        (packet_at h a i b at_b) (
-          (steady w n h a a_lt legal).ordered.begin_places i b at_b,
-          some,
-          is,
-          any_at (λ (e : Ended). (e.ord ≡ i) × (b.from + e.size ≡ length octets)) (Ends h a) i e at_e ((steady w n h a a_lt legal).ordered.end_places i e at_e, full),
-        )),
+    (λ (some, is, full). (b, e, at_b, at_e, some, is, full)),
   )
 
   is_nothing : (x : What) → IsDecided (x ≡ what.Nothing)
@@ -80,7 +60,7 @@ module _ (w : Scenario) (n : ℕ) (h : History) (legal : LegalUpTo w n h) (a : �
       three (inl p) (inr nay) r = inr (λ x. nay x.1)
       three (inr nay) q r = inr (λ x. nay x.0)
 
-  kind_decided : (k : Kind) → IsDecided (b.kind ≡ k) → IsDecided (IsOfKind w h a i k)
+  kind_decided : (k : Kind) → IsDecided (b.kind ≡ k) → IsDecided (IsOfKind h a i k)
   kind_decided k decided = alike ((kind_is k).1, (kind_is k).0) decided
 
   pub alias_decided : IsDecided (Alias w h a i)
@@ -95,13 +75,13 @@ module _ (w : Scenario) (n : ℕ) (h : History) (legal : LegalUpTo w n h) (a : �
           none (inr (inr (octets, x, y))) = cc (one_given (Air w h a) i Given.part (Given.frame octets) gives x)
       by_given Given.verify gives = elim (kind_decided kind.Verify (is_verify_kind b.kind)) [ inl is ↦ inr (none is) | inr not_so ↦ inl (inl (gives, not_so)) ]
         where
-          none : IsOfKind w h a i kind.Verify → Alias w h a i → ⊥
+          none : IsOfKind h a i kind.Verify → Alias w h a i → ⊥
           none is (inl (x, y)) = y is
           none is (inr (inl (x, y))) = cc (one_given (Air w h a) i Given.verify Given.respond gives x)
           none is (inr (inr (octets, x, y))) = cc (one_given (Air w h a) i Given.verify (Given.frame octets) gives x)
       by_given Given.respond gives = elim (kind_decided kind.Respond (is_respond_kind b.kind)) [ inl is ↦ inr (none is) | inr not_so ↦ inl (inr (inl (gives, not_so))) ]
         where
-          none : IsOfKind w h a i kind.Respond → Alias w h a i → ⊥
+          none : IsOfKind h a i kind.Respond → Alias w h a i → ⊥
           none is (inl (x, y)) = cc (one_given (Air w h a) i Given.respond Given.verify gives x)
           none is (inr (inl (x, y))) = y is
           none is (inr (inr (octets, x, y))) = cc (one_given (Air w h a) i Given.respond (Given.frame octets) gives x)
@@ -125,9 +105,9 @@ module _ (w : Scenario) (n : ℕ) (h : History) (legal : LegalUpTo w n h) (a : �
           nothing (inr (inr (octets, x, y))) = none (Given.frame octets) x
 
 -- later events leave it as it is whether what ended is an alias
-pub alias_stays : (w : Scenario) (m n o : ℕ) (h es : History) → LegalUpTo w m h → AllWithin (length w.net.arcs) m n es → LegalUpTo w o (h ++ es) → (a : ℕ) → a < length w.net.arcs → (i : ℕ) → i < length (Ends h a)
+pub alias_stays : (w : Scenario) (m n : ℕ) (h es : History) → LegalUpTo w m h → AllWithin (length w.net.arcs) m n es → (a : ℕ) → a < length w.net.arcs → (i : ℕ) → i < length (Ends h a)
     → Alias w (h ++ es) a i ↔ Alias w h a i
-alias_stays w m n o h es legal later legal' a a_lt i lt = (from, to)
+alias_stays w m n h es legal later a a_lt i lt = (from, to)
   where
     e : (e : Ended) × (slice_get (Ends h a) i ≡ Some e)
     e = there (Ends h a) i lt
@@ -141,17 +121,17 @@ alias_stays w m n o h es legal later legal' a a_lt i lt = (from, to)
     new_b : slice_get (Begins (h ++ es) a) i ≡ Some b.0
     new_b = ap (λ l. slice_get l i) (filter_map-append (begin_on a) h es) ∙ at_front (Begins h a) (Begins es a) i b.0 b.1
 
-    kinds : (k : Kind) → IsOfKind w (h ++ es) a i k ↔ IsOfKind w h a i k
+    kinds : (k : Kind) → IsOfKind (h ++ es) a i k ↔ IsOfKind h a i k
     kinds k =
-        let new = kind_is w o (h ++ es) legal' a a_lt i b.0 e.0 new_b new_e k in
-        let old = kind_is w m h legal a a_lt i b.0 e.0 b.1 e.1 k in
+        let new = kind_is w (h ++ es) a i b.0 e.0 new_b new_e k in
+        let old = kind_is w h a i b.0 e.0 b.1 e.1 k in
         ((λ is. old.1 (new.0 is)), λ is. new.1 (old.0 is))
 
     lasts : (octets : List ℕ) → IsLastOf w (h ++ es) a i octets ↔ IsLastOf w h a i octets
     lasts octets =
         let whole = whole_stays w m n h es legal later a a_lt i b.0 b.1 in
-        let new = last_is w o (h ++ es) legal' a a_lt i b.0 e.0 new_b new_e octets in
-        let old = last_is w m h legal a a_lt i b.0 e.0 b.1 e.1 octets in
+        let new = last_is w (h ++ es) a i b.0 e.0 new_b new_e octets in
+        let old = last_is w h a i b.0 e.0 b.1 e.1 octets in
         ((λ is. old.1 (subst (λ x. IsLastBy x b.0 e.0 octets) whole (new.0 is))), λ is. new.1 (subst (λ x. IsLastBy x b.0 e.0 octets) (sym whole) (old.0 is)))
 
     given : (g : Given) → Gives (Air w (h ++ es) a) i g ↔ Gives (Air w h a) i g

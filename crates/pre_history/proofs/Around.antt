@@ -15,7 +15,7 @@ use Rattle.pre_history.proofs.Lists.{every_at, every_selected}
 use Rattle.pre_history.proofs.LaterEnds.{split_at}
 use Rattle.pre_history.proofs.Moments.{moment_in}
 use Rattle.pre_history.proofs.Placing.{moment_events}
-use Rattle.pre_history.specs.Cuts.{IsWithin, AllWithin}
+use Rattle.pre_history.specs.Placed.{IsWithin, AllWithin}
 use Rattle.pre_history.proofs.Cut.{cut_at, following}
 
 pub record Around (w : Scenario) (n : ℕ) (h : History) (t k : ℕ) (p : Phase) : Type 0 where

@@ -1,5 +1,5 @@
 -- An mPacket arrives in its turn.
-use Rattle.std.proofs.Common.{ℕ, suc, ◌≡◌, ◌≢◌, ◌⊎◌, ◌+◌, ◌<◌, List, [], ◌∷◌, ◌++◌, length, refl, sym, ◌∙◌, ap, inl, inr, arith, subst, Option, Some, None, length-append}
+use Rattle.std.proofs.Common.{ℕ, suc, ◌≡◌, ◌≢◌, ◌⊎◌, ◌+◌, ◌<◌, List, [], ◌∷◌, ◌++◌, length, refl, sym, ◌∙◌, ap, inl, inr, arith, subst, Option, Some, None, length-append, Bool, true, false}
 use Rattle.std.specs.Prelude.{slice_get}
 use Rattle.std.proofs.lemmas.Bool.{cases_lt}
 use Rattle.std.proofs.lemmas.List.Elements.{filter_map-append}
@@ -8,10 +8,10 @@ use Rattle.pre_history.specs.declared.events.Outcome.TheVariants as outcome
 use Rattle.pre_history.specs.Scenario.{Scenario, arc}
 use Rattle.pre_history.specs.Moments.{Phase, moments}
 use Rattle.pre_history.specs.History.{PlainEvent, History, Ended, Arrive}
-use Rattle.pre_history.specs.Selected.{arrive_on}
+use Rattle.pre_history.specs.Selected.{arrive_on, is_frame_result}
 use Rattle.pre_history.specs.Queries.{Begins, Ends, Arrivals}
 use Rattle.pre_history.specs.Comings.{next_arc}
-use Rattle.pre_history.specs.Rules.{Arriving, WithDelivery, delivered, arrival, HappensIn}
+use Rattle.pre_history.specs.Rules.{Arriving, EventsOf, WithDelivery, delivered, arrival, HappensIn}
 use Rattle.pre_history.specs.Octets.{Air}
 use Rattle.pre_history.specs.Received.{Result}
 use Rattle.pre_history.specs.Placed.{number, AllAt, AllBefore}
@@ -27,17 +27,15 @@ use Rattle.pre_history.proofs.EndTurns.{is_eq}
 module _ (w : Scenario) (past es : History) (t a : ℕ) (a_lt : a < length w.net.arcs) where
   -- an arrival has one `arrive` event
   pub one_arrival : (i : ℕ) (r : Outcome) (fs : List PlainEvent) → WithDelivery w past t a i r fs → Arrivals fs a ≡ record { tick = t; arc = a; ord = i; result = r } ∷ []
-  one_arrival i outcome.Frame fs (f, octets, frame, gives, is) = ap (λ x. Arrivals x a) is ∙ go (next_arc w a f)
+  one_arrival i r fs with' = by_test (is_frame_result r) with'
     where
-      go : (next : Option ℕ) → Arrivals (arrival t a i outcome.Frame ∷ delivered t (arc w a).to.0 f octets next) a ≡ record { tick = t; arc = a; ord = i; result = outcome.Frame } ∷ []
-      go None = rw (is_eq a a refl) refl
-      go (Some b) = rw (is_eq a a refl) refl
-  one_arrival i outcome.Lost fs is = ap (λ x. Arrivals x a) is ∙ rw (is_eq a a refl) refl
-  one_arrival i outcome.Lldp fs is = ap (λ x. Arrivals x a) is ∙ rw (is_eq a a refl) refl
-  one_arrival i outcome.Part fs is = ap (λ x. Arrivals x a) is ∙ rw (is_eq a a refl) refl
-  one_arrival i outcome.Verify fs is = ap (λ x. Arrivals x a) is ∙ rw (is_eq a a refl) refl
-  one_arrival i outcome.Respond fs is = ap (λ x. Arrivals x a) is ∙ rw (is_eq a a refl) refl
-  one_arrival i outcome.Nothing fs is = ap (λ x. Arrivals x a) is ∙ rw (is_eq a a refl) refl
+      both : (f : ℕ) (octets : List ℕ) (next : Option ℕ) → Arrivals (arrival t a i r ∷ delivered t (arc w a).to.0 f octets next) a ≡ record { tick = t; arc = a; ord = i; result = r } ∷ []
+      both f octets None = rw (is_eq a a refl) refl
+      both f octets (Some b) = rw (is_eq a a refl) refl
+
+      by_test : (is_user : Bool) → EventsOf w past t is_user a i r fs → Arrivals fs a ≡ record { tick = t; arc = a; ord = i; result = r } ∷ []
+      by_test true (f, octets, frame, gives, is) = ap (λ x. Arrivals x a) is ∙ both f octets (next_arc w a f)
+      by_test false is = ap (λ x. Arrivals x a) is ∙ rw (is_eq a a refl) refl
 
   module _ (k_lt : 1 + length w.net.arcs + a < moments (length w.net.arcs))
       (before : AllBefore (length w.net.arcs) (number (length w.net.arcs) t (1 + length w.net.arcs + a)) past) (at : AllAt (length w.net.arcs) (number (length w.net.arcs) t (1 + length w.net.arcs + a)) es)

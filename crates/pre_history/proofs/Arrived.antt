@@ -1,5 +1,5 @@
 -- The events of an arrival are decided, since an arrival gives one thing at most.
-use Rattle.std.proofs.Common.{ℕ, ◌≡◌, List, sym, ◌∙◌, ap, inl, inr, subst, Option}
+use Rattle.std.proofs.Common.{ℕ, ◌≡◌, List, sym, ◌∙◌, ap, inl, inr, subst, Option, Bool, true, false}
 use Rattle.std.specs.Prelude.{option_and_then}
 use Rattle.pre_mpacket.specs.Spelling.{mpacket_of}
 use Rattle.pre_mpacket.specs.Arrivals.{Given, Gives, IsLost}
@@ -9,8 +9,9 @@ use Rattle.pre_history.specs.Scenario.{Scenario}
 use Rattle.pre_history.specs.History.{History, Ended}
 use Rattle.pre_history.specs.Octets.{Air}
 use Rattle.pre_history.specs.Received.{result_of, Result}
-use Rattle.pre_history.specs.Rules.{Arriving, WithDelivery}
+use Rattle.pre_history.specs.Rules.{Arriving, EventsOf, WithDelivery}
 use Rattle.pre_history.proofs.Deciding.{IsOne}
+use Rattle.pre_history.specs.Selected.{is_frame_result}
 
 -- an arrival gives one thing at most, which is a law of mPackets
 abbrev pub OneGiven : Type 0
@@ -32,16 +33,14 @@ result_one one A i r s (inr (inr (here, none, is))) (inr (inl (g, gives, is'))) 
 result_one one A i r s (inr (inr (here, none, is))) (inr (inr (here', none', is'))) = is ∙ sym is'
 
 pub delivery_one : OneGiven → (w : Scenario) (past : History) (t a i : ℕ) (r : Outcome) → IsOne (WithDelivery w past t a i r)
-delivery_one one w past t a i outcome.Frame es fs (f, octets, frame, gives, is) (g, octets', frame', gives', is') =
-    let same : f ≡ g = cc (frame, frame') in
-    let octets_same : Given.frame octets ≡ Given.frame octets' = one (Air w past a) i (Given.frame octets) (Given.frame octets') gives gives' in
-    cc (same, octets_same, is, is')
-delivery_one one w past t a i outcome.Lost es fs h k = h ∙ sym k
-delivery_one one w past t a i outcome.Lldp es fs h k = h ∙ sym k
-delivery_one one w past t a i outcome.Part es fs h k = h ∙ sym k
-delivery_one one w past t a i outcome.Verify es fs h k = h ∙ sym k
-delivery_one one w past t a i outcome.Respond es fs h k = h ∙ sym k
-delivery_one one w past t a i outcome.Nothing es fs h k = h ∙ sym k
+delivery_one one w past t a i r es fs = by_test (is_frame_result r)
+  where
+    by_test : (is_user : Bool) → EventsOf w past t is_user a i r es → EventsOf w past t is_user a i r fs → es ≡ fs
+    by_test true (f, octets, frame, gives, is) (g, octets', frame', gives', is') =
+        let same : f ≡ g = cc (frame, frame') in
+        let octets_same : Given.frame octets ≡ Given.frame octets' = one (Air w past a) i (Given.frame octets) (Given.frame octets') gives gives' in
+        cc (same, octets_same, is, is')
+    by_test false is is' = is ∙ sym is'
 
 pub arriving_one : OneGiven → (w : Scenario) (past : History) (t a : ℕ) (e : Ended) → IsOne (Arriving w past t a e)
 arriving_one one w past t a e es fs (inl (due, (r, is, gives))) (inl (due', (s, is', gives'))) =

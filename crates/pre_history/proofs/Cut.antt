@@ -10,7 +10,8 @@ use Rattle.pre_history.specs.Legal.{LegalUpTo}
 use Rattle.pre_history.proofs.Lists.{any_at, found_at, every-append, every_weaker}
 use Rattle.pre_history.proofs.LaterEnds.{split_at}
 use Rattle.pre_history.proofs.Placing.{moment_events}
-use Rattle.pre_history.specs.Cuts.{IsWithin, AllWithin, IsCut, IsCutAt}
+use Rattle.pre_history.specs.Placed.{IsWithin, AllWithin}
+use Rattle.pre_history.specs.Cuts.{IsCut, IsCutAt}
 
 -- events of moment m stand from m on
 pub at_within : (arcs m n : ℕ) (es : History) → m < n → AllAt arcs m es → AllWithin arcs m n es

@@ -49,14 +49,15 @@ module _ (w : Scenario) (h : History) (a i f : ℕ) (b : Begin) (e : Ended) (is 
   -- ---- no alias
 
   is_last : IsLastOf w h a i (FrameOf w f)
-  is_last =
-      any_at (λ (p : Packet). (p.begin.ord ≡ i) × (p.begin.what ≢ what.Nothing) × (FrameOf w f ≡ WholeOf w h p.begin) × Any (λ (x : Ended). (x.ord ≡ i) × (p.begin.from + x.size ≡ length (FrameOf w f))) (Ends h a))
-      (Packets h a) i (packet h a b) (packet_at h a i b is.begun) (
-        is.begin_ord,
-        (λ none. let other : what.Frame (record { 0 = f }) ≡ what.Nothing = sym is.carries ∙ none in cc other),
-        sym (ap (whole_of w h b) is.carries),
-        any_at (λ (x : Ended). (x.ord ≡ i) × (b.from + x.size ≡ length (FrameOf w f))) (Ends h a) i e is.ended (is.end_ord, omega (arith, is.from, is.size)),
-      )
+  is_last = (
+    b,
+    e,
+    is.begun,
+    is.ended,
+    (λ none. let other : what.Frame (record { 0 = f }) ≡ what.Nothing = sym is.carries ∙ none in cc other),
+    sym (ap (whole_of w h b) is.carries),
+    (let from : b.from + e.size ≡ e.size = omega (arith, is.from) in from ∙ is.size),
+  )
 
   no_alias_at : OneGiven → ¬ Alias w h a i
   no_alias_at one (inl (gives, other)) = let same : Given.verify ≡ Given.frame (FrameOf w f) = one (Air w h a) i Given.verify (Given.frame (FrameOf w f)) gives is.gives in cc same
@@ -153,16 +154,15 @@ module _ (spelled : OneSpelled) (one : OneGiven) (w : Scenario) (plain : IsPlain
       )
 
   -- no arrival is an alias
-  pub no_alias : (a : ℕ) → All (λ x. ¬ Alias w h a x.ord) (Arrivals h a)
-  no_alias a = All-from_recursion (λ (x : Arrive). ¬ Alias w h a x.ord) (Arrivals h a) (elim (cases_lt a (length w.net.arcs)) [
-    | inl lt ↦ every_placed (λ (x : Arrive). ¬ Alias w h a x.ord) (Arrivals h a) (λ i x at.
-        let is = frame_at a i lt (within (Arrivals h a) i x at) in
-        let ord : x.ord ≡ i = (steady w n h a lt legal).ordered.arrival_places i x at in
-        subst (λ j. ¬ Alias w h a j) (sym ord) (no_alias_at w h a i is.0 is.1 is.2 is.3 one))
+  pub no_alias : (a i : ℕ) → i < length (Arrivals h a) → ¬ Alias w h a i
+  no_alias a i lt = elim (cases_lt a (length w.net.arcs)) [
+    | inl known ↦ let is = frame_at a i known lt in no_alias_at w h a i is.0 is.1 is.2 is.3 one
     | inr past ↦
-        every_selected (arrive_on a) (IsBefore (length w.net.arcs) n) (λ x. ¬ Alias w h a x.ord)
-        (λ e x before is. absurd (let known : a < length w.net.arcs = arrives_within (length w.net.arcs) n a e x before is in omega (arith, known, past))) h (placed w n h legal)
-  ])
+        let x = there (Arrivals h a) i lt in
+        let known : a < length w.net.arcs = every_at (λ (x : Arrive). a < length w.net.arcs) (Arrivals h a) i x.0
+        (every_selected (arrive_on a) (IsBefore (length w.net.arcs) n) (λ x. a < length w.net.arcs) (λ e x before is. arrives_within (length w.net.arcs) n a e x before is) h (placed w n h legal)) x.1 in
+        absurd (omega (arith, known, past))
+  ]
 
   counts_none : (a : ℕ) → a < length w.net.arcs → CountsOf w h a no_counts
   counts_none a lt =

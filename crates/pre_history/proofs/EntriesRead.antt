@@ -20,7 +20,7 @@ use Rattle.std.proofs.lemmas.List.{append-nil}
 use Rattle.pre_history.proofs.Moments.{entries_place}
 use Rattle.pre_history.proofs.Placing.{placed}
 use Rattle.pre_history.proofs.InOrder.{steady}
-use Rattle.pre_history.specs.Cuts.{IsWithin, AllWithin}
+use Rattle.pre_history.specs.Placed.{IsWithin, AllWithin}
 use Rattle.pre_history.specs.Read.{IsTold, IsNoEntry, HasEntries, HasEntry}
 use Rattle.pre_history.proofs.Places.{later_tick}
 use Rattle.pre_history.proofs.Around.{around, arrivals_within}

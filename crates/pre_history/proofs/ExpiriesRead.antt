@@ -15,7 +15,7 @@ use Rattle.pre_history.proofs.LaterEnds.{split_at}
 use Rattle.pre_history.proofs.Moments.{expiries_place}
 use Rattle.pre_history.proofs.Placing.{placed}
 use Rattle.pre_history.proofs.Unread.{active_stays, reverse_within}
-use Rattle.pre_history.specs.Cuts.{IsWithin}
+use Rattle.pre_history.specs.Placed.{IsWithin}
 use Rattle.pre_history.specs.Read.{IsTold}
 use Rattle.pre_history.proofs.Places.{all_unread_from}
 use Rattle.pre_history.proofs.EndsRead.{more_places}

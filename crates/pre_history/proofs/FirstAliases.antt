@@ -12,16 +12,15 @@ use Rattle.pre_history.specs.Queries.{Begins, Ends, Arrivals}
 use Rattle.pre_history.specs.Octets.{Air}
 use Rattle.pre_history.specs.Received.{Result}
 use Rattle.pre_history.specs.Rules.{WithDelivery, HappensIn, Happens}
-use Rattle.pre_history.specs.Placed.{number, IsAt, IsBefore, AllAt}
-use Rattle.pre_history.specs.Legal.{LegalUpTo, Alias, LegalBefore}
+use Rattle.pre_history.specs.Placed.{number, IsAt, IsBefore, AllAt, moment_of}
+use Rattle.pre_history.specs.Legal.{LegalUpTo, Alias, LegalBefore, ArrivesAsAlias}
 use Rattle.pre_history.proofs.Lists.{any_at, read_at, there, within, every_at, every_selected}
 use Rattle.pre_history.proofs.Moments.{moment_in, arrivals_place}
 use Rattle.pre_history.proofs.Placing.{place_at, placed, moment_events}
 use Rattle.pre_history.proofs.LaterEnds.{split_at}
 use Rattle.pre_history.proofs.ArrivalTurns.{one_arrival, what_arrives}
 use Rattle.pre_history.proofs.InOrder.{steady}
-use Rattle.pre_history.specs.Cuts.{IsCutAt}
-use Rattle.pre_history.specs.Next.{FirstAliasAt}
+use Rattle.pre_history.specs.Cuts.{IsCutAt, IsCut}
 use Rattle.pre_history.proofs.Known.{one_given}
 use Rattle.pre_history.proofs.Cut.{at_within, cut_at, following}
 use Rattle.pre_history.proofs.OneHistory.{legal_one}
@@ -36,18 +35,18 @@ use Rattle.pre_history.proofs.Progress.{progress}
 use Rattle.pre_history.specs.Placed.{HasPlace}
 
 -- an element with a property that is decided of each by its place
-some_placed : {X : Type 0} (P : X → Type 0) (xs : List X) → ((i : ℕ) (x : X) → slice_get xs i ≡ Some x → IsDecided (P x)) → ((i : ℕ) × (x : X) × (slice_get xs i ≡ Some x) × P x) ⊎ ((i : ℕ) (x : X) → slice_get xs i ≡ Some x → ¬ P x)
+some_placed : {X : Type 0} (P : ℕ → X → Type 0) (xs : List X) → ((i : ℕ) (x : X) → slice_get xs i ≡ Some x → IsDecided (P i x)) → ((i : ℕ) × (x : X) × (slice_get xs i ≡ Some x) × P i x) ⊎ ((i : ℕ) (x : X) → slice_get xs i ≡ Some x → ¬ P i x)
 some_placed P [] decided = inr (λ i x at p. absurd (cc at))
 some_placed {X} P (y ∷ ys) decided = elim (decided 0 y refl) [
   | inl p ↦ inl (0, y, refl, p)
-  | inr first ↦ elim (some_placed P ys (λ i x at. decided (suc i) x at)) [
+  | inr first ↦ elim (some_placed (λ i x. P (suc i) x) ys (λ i x at. decided (suc i) x at)) [
     | inl o ↦ inl (suc o.0, o.1, o.2, o.3)
     | inr none ↦ inr (nowhere first none)
   ]
 ]
   where
-    nowhere : ¬ P y → ((i : ℕ) (x : X) → slice_get ys i ≡ Some x → ¬ P x) → (i : ℕ) (x : X) → slice_get (y ∷ ys) i ≡ Some x → ¬ P x
-    nowhere first none zero x at p = first (subst P (sym (cc at)) p)
+    nowhere : ¬ P 0 y → ((i : ℕ) (x : X) → slice_get ys i ≡ Some x → ¬ P (suc i) x) → (i : ℕ) (x : X) → slice_get (y ∷ ys) i ≡ Some x → ¬ P i x
+    nowhere first none zero x at p = first (subst (P 0) (sym (cc at)) p)
     nowhere first none (suc i) x at p = none i x at p
 
 -- what arrives on an arc of a legal history does so on an arc of the network
@@ -67,89 +66,73 @@ arrives_within arcs n a (PlainEvent.dropped c) x before is = absurd (cc is)
 arrives_within arcs n a (PlainEvent.count s c) x before is = absurd (cc is)
 arrives_within arcs n a (PlainEvent.end c) x before is = absurd (cc is)
 
+-- an alias arrives at moment n
+abbrev pub AliasNext : Scenario → History → ℕ → Type 0
+AliasNext w h n = (t a i : ℕ) × (a < length w.net.arcs) × (n ≡ moment_of w t (Phase.arrivals a)) × ArrivesAsAlias w h t a i
+
+-- the moment of arrivals at a tick
+pub arrivals_at : (w : Scenario) (n t a : ℕ) → a < length w.net.arcs → n ≡ moment_of w t (Phase.arrivals a) → moment_at (length w.net.arcs) n ≡ record { tick = t; phase = Phase.arrivals a }
+arrivals_at w n t a a_lt is = ap (moment_at (length w.net.arcs)) is
+    ∙ (moment_in (length w.net.arcs) t (1 + length w.net.arcs + a) (omega (arith, a_lt)) ∙ ap (λ (p : Phase). record { tick = t; phase = p }) (arrivals_place (length w.net.arcs) a a_lt))
+
 module _ (w : Scenario) where
-  module _ (n : ℕ) (h : History) (legal : LegalUpTo w n h) (none : (a : ℕ) → All (λ x. ¬ Alias w h a x.ord) (Arrivals h a)) where
-    -- no alias arrives at the next moment
-    NoneNext : Type 0
-    NoneNext = (a t i : ℕ) (e : Ended) → moment_at (length w.net.arcs) n ≡ record { tick = t; phase = Phase.arrivals a } → slice_get (Ends h a) i ≡ Some e → e.tick + (arc w a).delay ≡ t → ¬ Alias w h a e.ord
-
-    alias_at : (a : ℕ) → a < length w.net.arcs → (i : ℕ) (e : Ended) → slice_get (Ends h a) i ≡ Some e → IsDecided (Alias w h a e.ord)
+  module _ (n : ℕ) (h : History) (legal : LegalUpTo w n h) (none : (a i : ℕ) → i < length (Arrivals h a) → ¬ Alias w h a i) where
+    alias_at : (a : ℕ) → a < length w.net.arcs → (i : ℕ) (e : Ended) → slice_get (Ends h a) i ≡ Some e → IsDecided (Alias w h a i)
     alias_at a a_lt i e at =
-        let o = (steady w n h a a_lt legal).ordered in
-        let b = there (Begins h a) i (omega (arith, within (Ends h a) i e at, o.ends_begun)) in
-        subst (λ j. IsDecided (Alias w h a j)) (sym (o.end_places i e at)) (alias_decided w n h legal a a_lt i b.0 e b.1 at)
+        let b = there (Begins h a) i (omega (arith, within (Ends h a) i e at, (steady w n h a a_lt legal).ordered.ends_begun)) in
+        alias_decided w h a i b.0 e b.1 at
 
-    next_alias : ((a i : ℕ) × FirstAliasAt w h n a i) ⊎ NoneNext
-    unfolding NoneNext
-    next_alias = go (phase_at (length w.net.arcs) (n % moments (length w.net.arcs))) refl (place_at (length w.net.arcs) n)
+    alias_next : IsDecided (AliasNext w h n)
+    alias_next = go (phase_at (length w.net.arcs) (n % moments (length w.net.arcs))) refl (place_at (length w.net.arcs) n)
       where
         t : ℕ
         t = n / moments (length w.net.arcs)
 
-        other : (p q : Phase) (u : ℕ) → phase_at (length w.net.arcs) (n % moments (length w.net.arcs)) ≡ p → moment_at (length w.net.arcs) n ≡ record { tick = u; phase = q } → p ≡ q
-        other p q u is m = sym is ∙ ap (λ (m : Moment). m.phase) m
+        phase_is : (u a : ℕ) → a < length w.net.arcs → n ≡ moment_of w u (Phase.arrivals a) → phase_at (length w.net.arcs) (n % moments (length w.net.arcs)) ≡ Phase.arrivals a
+        phase_is u a a_lt is = ap (λ (m : Moment). m.phase) (arrivals_at w n u a a_lt is)
 
         go : (p : Phase) → phase_at (length w.net.arcs) (n % moments (length w.net.arcs)) ≡ p → HasPlace (length w.net.arcs) (n % moments (length w.net.arcs)) (phase_at (length w.net.arcs) (n % moments (length w.net.arcs)))
-            → ((a i : ℕ) × FirstAliasAt w h n a i) ⊎ ((a t i : ℕ) (e : Ended) → moment_at (length w.net.arcs) n ≡ record { tick = t; phase = Phase.arrivals a } → slice_get (Ends h a) i ≡ Some e → e.tick + (arc w a).delay ≡ t → ¬ Alias w h a e.ord)
-        go Phase.sets is place = inr (λ a u i e m at due alias. cc (other Phase.sets (Phase.arrivals a) u is m))
-        go Phase.entries is place = inr (λ a u i e m at due alias. cc (other Phase.entries (Phase.arrivals a) u is m))
-        go (Phase.ends c) is place = inr (λ a u i e m at due alias. cc (other (Phase.ends c) (Phase.arrivals a) u is m))
-        go (Phase.expiries c) is place = inr (λ a u i e m at due alias. cc (other (Phase.expiries c) (Phase.arrivals a) u is m))
-        go (Phase.starts c) is place = inr (λ a u i e m at due alias. cc (other (Phase.starts c) (Phase.arrivals a) u is m))
+            → IsDecided (AliasNext w h n)
+        go Phase.sets is place = inr (λ (u, a, i, a_lt, at, alias). cc (sym is ∙ phase_is u a a_lt at))
+        go Phase.entries is place = inr (λ (u, a, i, a_lt, at, alias). cc (sym is ∙ phase_is u a a_lt at))
+        go (Phase.ends c) is place = inr (λ (u, a, i, a_lt, at, alias). cc (sym is ∙ phase_is u a a_lt at))
+        go (Phase.expiries c) is place = inr (λ (u, a, i, a_lt, at, alias). cc (sym is ∙ phase_is u a a_lt at))
+        go (Phase.starts c) is place = inr (λ (u, a, i, a_lt, at, alias). cc (sym is ∙ phase_is u a a_lt at))
         go (Phase.arrivals c) is place =
             let c_at : HasPlace (length w.net.arcs) (n % moments (length w.net.arcs)) (Phase.arrivals c) = subst (HasPlace (length w.net.arcs) (n % moments (length w.net.arcs))) is place in
-            elim (some_placed (λ (e : Ended). (e.tick + (arc w c).delay ≡ n / moments (length w.net.arcs)) × Alias w h c e.ord) (Ends h c)
-            (λ i e at. both_then (equal (e.tick + (arc w c).delay) (n / moments (length w.net.arcs))) (λ due. alias_at c c_at.0 i e at))) [
-              | inl (i, e, at, (due, alias)) ↦ inl (
-                c,
-                e.ord,
-                (
-                  (legal, none),
-                  (
-                    n / moments (length w.net.arcs),
-                    ap (λ (p : Phase). record { tick = n / moments (length w.net.arcs); phase = p }) is,
-                    any_at (λ (x : Ended). (x.ord ≡ e.ord) × (x.tick + (arc w c).delay ≡ n / moments (length w.net.arcs))) (Ends h c) i e at (refl, due),
-                    alias,
-                  ),
-                ),
-              )
-              | inr nowhere ↦ inr (λ a u i e m at due alias.
-                  let arc_is : c ≡ a = cc (other (Phase.arrivals c) (Phase.arrivals a) u is m) in
-                  let tick_is : n / moments (length w.net.arcs) ≡ u = ap (λ (m : Moment). m.tick) m in
+            elim (some_placed (λ (i : ℕ) (e : Ended). (e.tick + (arc w c).delay ≡ t) × Alias w h c i) (Ends h c)
+            (λ i e at. both_then (equal (e.tick + (arc w c).delay) t) (λ due. alias_at c c_at.0 i e at))) [
+              | inl (i, e, at, (due, alias)) ↦ inl (t, c, i, c_at.0, numbered (length w.net.arcs) n ∙ ap (number (length w.net.arcs) t) c_at.1, (e, at, due, alias))
+              | inr nowhere ↦ inr (λ (u, a, i, a_lt, n_is, (e, at, due, alias)).
+                  let arc_is : c ≡ a = cc (sym is ∙ phase_is u a a_lt n_is) in
+                  let tick_is : t ≡ u = ap (λ (m : Moment). m.tick) (arrivals_at w n u a a_lt n_is) in
                   nowhere i e (subst (λ x. slice_get (Ends h x) i ≡ Some e) (sym arc_is) at)
-                  (subst (λ x. e.tick + (arc w x).delay ≡ n / moments (length w.net.arcs)) (sym arc_is) (due ∙ sym tick_is), subst (λ x. Alias w h x e.ord) (sym arc_is) alias))
+                  (subst (λ x. e.tick + (arc w x).delay ≡ t) (sym arc_is) (due ∙ sym tick_is), subst (λ x. Alias w h x i) (sym arc_is) alias))
             ]
 
-    module _ (es : List PlainEvent) (happens : Happens w h (moment_at (length w.net.arcs) n) es) (no_next : NoneNext) where
+    module _ (es : List PlainEvent) (happens : Happens w h (moment_at (length w.net.arcs) n) es) (no_next : ¬ AliasNext w h n) where
       next_legal : LegalUpTo w (suc n) (h ++ es)
       next_legal = (h, es, refl, legal, happens)
 
       at_now : AllAt (length w.net.arcs) n es
       at_now = moment_events w h n es happens
 
-      -- what arrived is no alias
-      old_arrival : (a : ℕ) → a < length w.net.arcs → (i : ℕ) (x : Arrive) → slice_get (Arrivals h a) i ≡ Some x → ¬ Alias w (h ++ es) a x.ord
-      old_arrival a a_lt i x at alias =
-          let o = (steady w n h a a_lt legal).ordered in
-          let i_lt = within (Arrivals h a) i x at in
-          let ord : x.ord ≡ i = o.arrival_places i x at in
-          let before = (alias_stays w n (suc n) (suc n) h es legal (at_within (length w.net.arcs) n (suc n) es (omega arith) at_now) next_legal a a_lt x.ord (omega (arith, ord, i_lt, o.arrivals_ended))).0 alias in
-          subst (λ (y : Arrive). ¬ Alias w h a y.ord) (read_at (Arrivals h a) i x at) (none a i x i_lt) before
+      -- what ended before is an alias as it was
+      as_before : (a : ℕ) → a < length w.net.arcs → (i : ℕ) → i < length (Ends h a) → Alias w (h ++ es) a i → Alias w h a i
+      as_before a a_lt i lt alias = (alias_stays w n (suc n) h es legal (at_within (length w.net.arcs) n (suc n) es (omega arith) at_now) a a_lt i lt).0 alias
 
-      new_arrival : (a : ℕ) → a < length w.net.arcs → (j : ℕ) (x : Arrive) → slice_get (Arrivals es a) j ≡ Some x → ¬ Alias w (h ++ es) a x.ord
-      unfolding NoneNext
-      new_arrival a a_lt j x at alias = go (what_arrives w h es x.tick a a_lt (omega (arith, a_lt)) (placed w m h legal_m) at_m (steady w m h a a_lt legal_m) happens_m)
+      old_arrival : (a : ℕ) → a < length w.net.arcs → (i : ℕ) → i < length (Arrivals h a) → ¬ Alias w (h ++ es) a i
+      old_arrival a a_lt i i_lt alias = none a i i_lt (as_before a a_lt i (omega (arith, i_lt, (steady w n h a a_lt legal).ordered.arrivals_ended)) alias)
+
+      new_arrival : (a : ℕ) → a < length w.net.arcs → (i j : ℕ) (x : Arrive) → slice_get (Arrivals (h ++ es) a) i ≡ Some x → slice_get (Arrivals es a) j ≡ Some x → ¬ Alias w (h ++ es) a i
+      new_arrival a a_lt i j x at at_j alias = go (what_arrives w h es x.tick a a_lt (omega (arith, a_lt)) (placed w m h legal_m) at_m (steady w m h a a_lt legal_m) happens_m)
         where
           m : ℕ
           m = number (length w.net.arcs) x.tick (1 + length w.net.arcs + a)
 
           n_is : n ≡ number (length w.net.arcs) x.tick (1 + length w.net.arcs + a)
           n_is = every_at (λ (x : Arrive). n ≡ number (length w.net.arcs) x.tick (1 + length w.net.arcs + a)) (Arrivals es a) j x
-              (every_selected (arrive_on a) (IsAt (length w.net.arcs) n) (λ x. n ≡ number (length w.net.arcs) x.tick (1 + length w.net.arcs + a)) (λ e x here is. (arrive_at (length w.net.arcs) n a e x here is).1) es at_now) at
-
-          moment_is : moment_at (length w.net.arcs) n ≡ record { tick = x.tick; phase = Phase.arrivals a }
-          moment_is = ap (moment_at (length w.net.arcs)) n_is
-              ∙ (moment_in (length w.net.arcs) x.tick (1 + length w.net.arcs + a) (omega (arith, a_lt)) ∙ ap (λ (p : Phase). record { tick = x.tick; phase = p }) (arrivals_place (length w.net.arcs) a a_lt))
+              (every_selected (arrive_on a) (IsAt (length w.net.arcs) n) (λ x. n ≡ number (length w.net.arcs) x.tick (1 + length w.net.arcs + a)) (λ e x here is. (arrive_at (length w.net.arcs) n a e x here is).1) es at_now) at_j
 
           legal_m : LegalUpTo w (number (length w.net.arcs) x.tick (1 + length w.net.arcs + a)) h
           legal_m = subst (λ k. LegalUpTo w k h) n_is legal
@@ -158,83 +141,84 @@ module _ (w : Scenario) where
           at_m = subst (λ k. AllAt (length w.net.arcs) k es) n_is at_now
 
           happens_m : HappensIn w h x.tick (Phase.arrivals a) es
-          happens_m = subst (λ (m : Moment). Happens w h m es) moment_is happens
+          happens_m = subst (λ (m : Moment). Happens w h m es) (arrivals_at w n x.tick a a_lt n_is) happens
 
           go : (es ≡ []) ⊎ ((e : Ended) × (slice_get (Ends h a) (length (Arrivals h a)) ≡ Some e) × (e.tick + (arc w a).delay ≡ x.tick) × ((r : Outcome) × Result (Air w h a) e.ord r × WithDelivery w h x.tick a e.ord r es)) → ⊥
-          go (inl empty) = let nothing : slice_get (Arrivals [] a) j ≡ Some x = subst (λ (l : History). slice_get (Arrivals l a) j ≡ Some x) empty at in cc nothing
+          go (inl empty) = let nothing : slice_get (Arrivals [] a) j ≡ Some x = subst (λ (l : History). slice_get (Arrivals l a) j ≡ Some x) empty at_j in cc nothing
           go (inr (e, at_e, due, (r, result, with'))) =
               let only = one_arrival w h es x.tick a a_lt e.ord r es with' in
-              let same = single (record { tick = x.tick; arc = a; ord = e.ord; result = r }) j (ap (λ l. slice_get l j) (sym only) ∙ at) in
+              let same = single (record { tick = x.tick; arc = a; ord = e.ord; result = r }) j (ap (λ l. slice_get l j) (sym only) ∙ at_j) in
               let ord : e.ord ≡ x.ord = ap (λ (y : Arrive). y.ord) same in
               let place_is = (steady w n h a a_lt legal).ordered.end_places (length (Arrivals h a)) e at_e in
-              let before = (alias_stays w n (suc n) (suc n) h es legal (at_within (length w.net.arcs) n (suc n) es (omega arith) at_now) next_legal a a_lt e.ord
-              (omega (arith, place_is, within (Ends h a) (length (Arrivals h a)) e at_e))).0 (subst (Alias w (h ++ es) a) (sym ord) alias) in
-              no_next a x.tick (length (Arrivals h a)) e moment_is at_e due before
+              let i_is : i ≡ length (Arrivals h a) = sym ((steady w (suc n) (h ++ es) a a_lt next_legal).ordered.arrival_places i x at) ∙ (sym ord ∙ place_is) in
+              let before = as_before a a_lt (length (Arrivals h a)) (within (Ends h a) (length (Arrivals h a)) e at_e) (subst (Alias w (h ++ es) a) i_is alias) in
+              no_next (x.tick, a, length (Arrivals h a), a_lt, n_is, (e, at_e, due, before))
             where
               single : (r : Arrive) (j : ℕ) → slice_get (r ∷ []) j ≡ Some x → r ≡ x
               single r zero at = cc at
               single r (suc j) at = absurd (cc at)
 
-      none_still : (a : ℕ) → All (λ x. ¬ Alias w (h ++ es) a x.ord) (Arrivals (h ++ es) a)
-      none_still a k d lt = go (there (Arrivals (h ++ es) a) k lt)
+      none_still : (a i : ℕ) → i < length (Arrivals (h ++ es) a) → ¬ Alias w (h ++ es) a i
+      none_still a i lt = go (there (Arrivals (h ++ es) a) i lt)
         where
-          go : (x : Arrive) × (slice_get (Arrivals (h ++ es) a) k ≡ Some x) → ¬ Alias w (h ++ es) a (slice_index_or (Arrivals (h ++ es) a) k d).ord
+          go : (x : Arrive) × (slice_get (Arrivals (h ++ es) a) i ≡ Some x) → ¬ Alias w (h ++ es) a i
           go (x, at) =
-              let a_lt : a < length w.net.arcs = every_at (λ (x : Arrive). a < length w.net.arcs) (Arrivals (h ++ es) a) k x
+              let a_lt : a < length w.net.arcs = every_at (λ (x : Arrive). a < length w.net.arcs) (Arrivals (h ++ es) a) i x
               (every_selected (arrive_on a) (IsBefore (length w.net.arcs) (suc n)) (λ x. a < length w.net.arcs) (arrives_within (length w.net.arcs) (suc n) a) (h ++ es) (placed w (suc n) (h ++ es) next_legal)) at in
-              subst (λ (y : Arrive). ¬ Alias w (h ++ es) a y.ord) (sym (any_read (Arrivals (h ++ es) a) k x d at)) (elim (split_at (Arrivals h a) (Arrivals es a) k x (ap (λ l. slice_get l k) (sym (filter_map-append (arrive_on a) h es)) ∙ at)) [
-                | inl old ↦ old_arrival a a_lt k x old
-                | inr new ↦ new_arrival a a_lt new.0 x new.1
-              ])
-            where
-              any_read : {X : Type 0} (xs : List X) (i : ℕ) (x d : X) → slice_get xs i ≡ Some x → slice_index_or xs i d ≡ x
-              any_read [] i x d at = absurd (cc at)
-              any_read (y ∷ xs) zero x d at = cc at
-              any_read (y ∷ xs) (suc i) x d at = any_read xs i x d at
+              elim (split_at (Arrivals h a) (Arrivals es a) i x (ap (λ l. slice_get l i) (sym (filter_map-append (arrive_on a) h es)) ∙ at)) [
+                | inl old ↦ old_arrival a a_lt i (within (Arrivals h a) i x old)
+                | inr new ↦ new_arrival a a_lt i new.0 x at new.1
+              ]
 
-    step : ((g : History) × LegalBefore w g (suc n)) ⊎ ((a i : ℕ) × FirstAliasAt w h n a i)
-    step = elim next_alias [
+    step : ((g : History) × LegalBefore w g (suc n)) ⊎ AliasNext w h n
+    step = elim alias_next [
       | inl alias ↦ inr alias
       | inr no_next ↦ elim (progress w n h legal) [
         | inl (es, happens) ↦ inl (h ++ es, (next_legal es happens no_next, none_still es happens no_next))
-        | inr (a, i, (t, is, due, alias)) ↦ inr (a, i, ((legal, none), (t, is, due, alias)))
+        | inr alias ↦ inr alias
       ]
     ]
 
-  pub legal_or_alias : (n : ℕ) → ((h : History) × LegalBefore w h n) ⊎ ((m : ℕ) × (h : History) × (a : ℕ) × (i : ℕ) × (m < n) × FirstAliasAt w h m a i)
-  legal_or_alias zero = inl ([], (refl, λ a k d lt. absurd (omega (arith, lt))))
-  legal_or_alias (suc n) = elim (legal_or_alias n) [
-    | inr (m, h, a, i, lt, first) ↦ inr (m, h, a, i, omega (arith, lt), first)
+  -- there is a history that is legal before moment n, or one that meets an alias before
+  pub goes_on : (n : ℕ) → ((h : History) × LegalBefore w h n) ⊎ ((m : ℕ) × (h : History) × (m < n) × LegalBefore w h m × AliasNext w h m)
+  goes_on zero = inl ([], (refl, λ a i lt. absurd (omega (arith, lt))))
+  goes_on (suc n) = elim (goes_on n) [
+    | inr (m, h, lt, before, alias) ↦ inr (m, h, omega (arith, lt), before, alias)
     | inl (h, (legal, none)) ↦ elim (step n h legal none) [
       | inl more ↦ inl more
-      | inr (a, i, first) ↦ inr (n, h, a, i, omega arith, first)
+      | inr alias ↦ inr (n, h, omega arith, (legal, none), alias)
     ]
   ]
 
 -- a history that is legal with no alias leaves none for an earlier moment
-pub not_both : (w : Scenario) (n m : ℕ) (h g : History) (a i : ℕ) → LegalBefore w h n → m < n → FirstAliasAt w g m a i → ⊥
-not_both w n m h g a i (legal, none) m_lt ((g_legal, g_none), (t, moment_is, (k, e, k_lt, at', (ord, due)), alias)) = go (cut_at w n h m m_lt legal)
+pub not_both : (w : Scenario) (n t a i : ℕ) (h g : History) → LegalBefore w h n → a < length w.net.arcs → moment_of w t (Phase.arrivals a) < n → LegalUpTo w (moment_of w t (Phase.arrivals a)) g → ArrivesAsAlias w g t a i → ⊥
+not_both w n t a i h g (legal, none) a_lt m_lt g_legal (e, at', due, alias) = go (cut_at w n h m m_lt legal)
   where
-    place : HasPlace (length w.net.arcs) (m % moments (length w.net.arcs)) (Phase.arrivals a)
-    place = subst (HasPlace (length w.net.arcs) (m % moments (length w.net.arcs))) (ap (λ (x : Moment). x.phase) moment_is) (place_at (length w.net.arcs) m)
-
-    m_is : m ≡ number (length w.net.arcs) t (1 + length w.net.arcs + a)
-    m_is = numbered (length w.net.arcs) m ∙ (ap (λ x. number (length w.net.arcs) x (m % moments (length w.net.arcs))) (ap (λ (x : Moment). x.tick) moment_is) ∙ ap (number (length w.net.arcs) t) place.1)
+    m : ℕ
+    m = moment_of w t (Phase.arrivals a)
 
     go : (front : History) × (events : History) × (rest : History) × IsCutAt w m n h front events rest → ⊥
     go (front, events, rest, c) =
         let same : g ≡ front = legal_one one_given w m g front g_legal c.legal in
-        let at : slice_get (Ends front a) k ≡ Some e = subst (λ (x : History). slice_get (Ends x a) k ≡ Some e) same (found_at (Ends g a) k e k_lt at') in
+        let at : slice_get (Ends front a) i ≡ Some e = subst (λ (x : History). slice_get (Ends x a) i ≡ Some e) same at' in
         let joined : h ≡ front ++ (events ++ rest) = c.joined ∙ append_assoc front events rest in
-        let whole : slice_get (Ends h a) k ≡ Some e = ap (λ l. slice_get l k) (ap (λ x. Ends x a) joined ∙ filter_map-append (ended_on a) front (events ++ rest)) ∙ at_front (Ends front a) (Ends (events ++ rest) a) k e at in
-        let s = steady w n h a place.0 legal in
-        let due_at : number (length w.net.arcs) (e.tick + (arc w a).delay) (1 + length w.net.arcs + a) ≡ m = ap (λ x. number (length w.net.arcs) x (1 + length w.net.arcs + a)) due ∙ sym m_is in
-        let arrived : k < length (Arrivals h a) = s.arrived k e whole (omega (arith, due_at, m_lt)) in
-        let x = there (Arrivals h a) k arrived in
-        let x_ord : x.0.ord ≡ i = s.ordered.arrival_places k x.0 x.1 ∙ (sym (s.ordered.end_places k e whole) ∙ ord) in
-        let i_lt : i < length (Ends front a) = omega (arith, within (Ends front a) k e at, s.ordered.end_places k e whole, ord) in
+        let whole : slice_get (Ends h a) i ≡ Some e = ap (λ l. slice_get l i) (ap (λ x. Ends x a) joined ∙ filter_map-append (ended_on a) front (events ++ rest)) ∙ at_front (Ends front a) (Ends (events ++ rest) a) i e at in
+        let arrived : i < length (Arrivals h a) = (steady w n h a a_lt legal).arrived i e whole (subst (λ u. number (length w.net.arcs) u (1 + length w.net.arcs + a) < n) (sym due) m_lt) in
         let later = (following w m n h front events rest m_lt c).later in
         let old : Alias w front a i = subst (λ (y : History). Alias w y a i) same alias in
         let now : Alias w h a i = subst (λ (y : History). Alias w y a i) (sym joined)
-        ((alias_stays w m n n front (events ++ rest) c.legal later (subst (LegalUpTo w n) joined legal) a place.0 i i_lt).1 old) in
-        subst (λ (y : Arrive). ¬ Alias w h a y.ord) (read_at (Arrivals h a) k x.0 x.1) (none a k x.0 arrived) (subst (Alias w h a) (sym x_ord) now)
+        ((alias_stays w m n front (events ++ rest) c.legal later a a_lt i (within (Ends front a) i e at)).1 old) in
+        none a i arrived now
+
+-- a front of a history with no alias has none
+pub no_alias_before : (w : Scenario) (m n : ℕ) (h front rest : History) → LegalBefore w h n → IsCut w m n h front rest → LegalBefore w front m
+no_alias_before w m n h front rest legal c = (c.legal, none)
+  where
+    none : (a i : ℕ) → i < length (Arrivals front a) → ¬ Alias w front a i
+    none a i lt alias =
+        let x = there (Arrivals front a) i lt in
+        let known : a < length w.net.arcs = every_at (λ (x : Arrive). a < length w.net.arcs) (Arrivals front a) i x.0
+        (every_selected (arrive_on a) (IsBefore (length w.net.arcs) m) (λ x. a < length w.net.arcs) (arrives_within (length w.net.arcs) m a) front (placed w m front c.legal)) x.1 in
+        let here : slice_get (Arrivals h a) i ≡ Some x.0 = ap (λ l. slice_get l i) (ap (λ l. Arrivals l a) c.joined ∙ filter_map-append (arrive_on a) front rest) ∙ at_front (Arrivals front a) (Arrivals rest a) i x.0 x.1 in
+        let ended : i < length (Ends front a) = omega (arith, lt, (steady w m front a known c.legal).ordered.arrivals_ended) in
+        legal.1 a i (within (Arrivals h a) i x.0 here) (subst (λ (l : History). Alias w l a i) (sym c.joined) ((alias_stays w m n front rest c.legal c.later a known i ended).1 alias))

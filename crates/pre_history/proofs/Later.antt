@@ -10,7 +10,7 @@ use Rattle.std.proofs.lemmas.Bool.Decides.{nat_tests}
 use Rattle.pre_history.specs.History.{PlainEvent, History, Begin}
 use Rattle.pre_history.specs.Selected.{RingEntry, begin_on, entry_on, what_is}
 use Rattle.pre_history.specs.Queries.{Begins, Entries, begun_before, Waiting}
-use Rattle.pre_history.specs.Placed.{AllLater}
+use Rattle.pre_history.proofs.IsLater.{AllLater}
 
 not_before : (m n : ℕ) → n ≤ m → nat_lt m n ≡ false
 not_before m n le = grind (arith, nat_tests)

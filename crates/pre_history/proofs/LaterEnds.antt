@@ -7,7 +7,7 @@ use Rattle.pre_history.specs.Scenario.{Scenario, arc}
 use Rattle.pre_history.specs.History.{PlainEvent, History, Begin, Ended}
 use Rattle.pre_history.specs.Selected.{begin_on, ended_on}
 use Rattle.pre_history.specs.Queries.{Begins, Ends, Packet, Packets, packet, IsUnderWay, Occupied}
-use Rattle.pre_history.specs.Placed.{IsLater, AllLater}
+use Rattle.pre_history.proofs.IsLater.{IsLater, AllLater}
 use Rattle.pre_history.proofs.Lists.{any_at, found_at, at_front, every_selected, every_filter, every_at}
 use Rattle.pre_history.proofs.Free.{packet_at}
 

@@ -69,3 +69,6 @@ pub mod Totals
 pub mod DeliveriesRead
 pub mod Known
 pub mod Waits
+pub mod IsLater
+pub mod Rising
+pub mod WrittenEvents

@@ -16,7 +16,7 @@ use Rattle.pre_history.specs.History.{History, Begin, Ended, Arrive}
 use Rattle.pre_history.specs.Selected.{begin_on, arrive_on, is_verify}
 use Rattle.pre_history.specs.Queries.{Begins, Arrivals, Packet, PacketsBefore}
 use Rattle.pre_history.specs.LinkState.{Began, LldpBegan, Received, RespondOwed, Active, ActiveIn, ActiveBefore, IsWanting, LldpWanted, Good, Verified, VerifiesBefore, VerifyWanted}
-use Rattle.pre_history.specs.Placed.{IsLater, AllLater}
+use Rattle.pre_history.proofs.IsLater.{IsLater, AllLater}
 use Rattle.pre_history.specs.Legal.{LegalUpTo}
 use Rattle.pre_history.proofs.Lists.{every_at, every_selected, every_weaker}
 use Rattle.pre_history.proofs.LaterEnds.{begin_later}

@@ -1,15 +1,17 @@
 -- Events that stand at later moments are read by no query at a tick.
-use Rattle.std.proofs.Common.{ℕ, ◌+◌, ◌*◌, ◌<◌, ◌≤◌, inl, inr, arith}
+use Rattle.std.proofs.Common.{ℕ, ◌+◌, ◌*◌, ◌<◌, ◌≤◌, inl, inr, arith, length}
 use Rattle.std.proofs.Math.Nat.{mul-le-mul_right}
 use Rattle.std.proofs.lemmas.Bool.{cases_lt}
 use Rattle.pre_history.specs.History.{PlainEvent, History}
-use Rattle.pre_history.specs.Moments.{moments}
-use Rattle.pre_history.specs.Placed.{number, IsAt, IsLater, AllLater}
+use Rattle.pre_history.specs.Moments.{moments, Phase}
+use Rattle.pre_history.specs.Placed.{number, IsAt, AreLater, moment_of}
+use Rattle.pre_history.proofs.IsLater.{IsLater, AllLater}
 use Rattle.std.specs.List.{AllByRecursion as Every}
 use Rattle.pre_history.proofs.Lists.{every_weaker}
 use Rattle.pre_history.proofs.Turns.{tick_le}
 use Rattle.pre_history.proofs.Unread.{IsUnread}
-use Rattle.pre_history.specs.Cuts.{IsWithin, AllWithin}
+use Rattle.pre_history.specs.Placed.{IsWithin, AllWithin}
+use Rattle.pre_history.specs.Scenario.{Scenario}
 
 -- a moment at an earlier place that isn't earlier is of a later tick
 pub later_tick : (size s t j k : ℕ) → j < k → s * size + k ≤ t * size + j → s < t
@@ -68,3 +70,6 @@ later_sooner t u le (PlainEvent.end e) later = tt
 
 pub all_later_sooner : (t u : ℕ) (es : History) → u ≤ t → AllLater t es → AllLater u es
 all_later_sooner t u es le later = every_weaker (IsLater t) (IsLater u) (later_sooner t u le) es later
+
+pub later_read : (w : Scenario) (t : ℕ) (es : History) → AreLater w t es → AllLater t es
+later_read w t es (n, within) = all_later_from (length w.net.arcs) t (moment_of w t (Phase.starts 0)) n es (omega arith) within

@@ -12,10 +12,10 @@ use Rattle.pre_history.specs.Scenario.{Scenario, arc, row, capacity}
 use Rattle.pre_history.specs.History.{PlainEvent, History, Begin, Entry, Ended}
 use Rattle.pre_history.specs.Moments.{Phase, moments, phase_at}
 use Rattle.pre_history.specs.Placed.{HasPlace, number, IsAt, AllAt, IsBefore, AllBefore}
-use Rattle.pre_history.specs.Selected.{begin_on}
+use Rattle.pre_history.specs.Selected.{begin_on, is_frame_result}
 use Rattle.pre_history.specs.Queries.{Begins, Ends, Waiting}
 use Rattle.pre_history.specs.Comings.{Coming, Comings, EntriesOf, entry_event, entry_for, next_arc}
-use Rattle.pre_history.specs.Rules.{Each, OneOrNone, EndDue, Arriving, WithDelivery, change, delivered, HappensIn}
+use Rattle.pre_history.specs.Rules.{Each, OneOrNone, EndDue, Arriving, EventsOf, WithDelivery, change, delivered, HappensIn}
 use Rattle.pre_history.specs.Legal.{LegalUpTo}
 use Rattle.pre_history.proofs.Lists.{every-append, every_weaker, every_selected}
 use Rattle.pre_history.proofs.Moments.{place_of_phase}
@@ -97,14 +97,12 @@ module _ (w : Scenario) (past : History) (t k : ℕ) where
   delivered_at a node f octets (Some b) (within, is_place) = tt
 
   arrival_at : (a i : ℕ) (r : Outcome) (es : List PlainEvent) → HasPlace (length w.net.arcs) k (Phase.arrivals a) → WithDelivery w past t a i r es → AllAt (length w.net.arcs) (number (length w.net.arcs) t k) es
-  arrival_at a i outcome.Frame es (within, is_place) (f, octets, frame, gives, is) =
-      subst (AllAt (length w.net.arcs) (number (length w.net.arcs) t k)) (sym is) ((within, ap (number (length w.net.arcs) t) is_place), delivered_at a (arc w a).to.0 f octets (next_arc w a f) (within, is_place))
-  arrival_at a i outcome.Lost es (within, is_place) is = subst (AllAt (length w.net.arcs) (number (length w.net.arcs) t k)) (sym is) ((within, ap (number (length w.net.arcs) t) is_place), tt)
-  arrival_at a i outcome.Lldp es (within, is_place) is = subst (AllAt (length w.net.arcs) (number (length w.net.arcs) t k)) (sym is) ((within, ap (number (length w.net.arcs) t) is_place), tt)
-  arrival_at a i outcome.Part es (within, is_place) is = subst (AllAt (length w.net.arcs) (number (length w.net.arcs) t k)) (sym is) ((within, ap (number (length w.net.arcs) t) is_place), tt)
-  arrival_at a i outcome.Verify es (within, is_place) is = subst (AllAt (length w.net.arcs) (number (length w.net.arcs) t k)) (sym is) ((within, ap (number (length w.net.arcs) t) is_place), tt)
-  arrival_at a i outcome.Respond es (within, is_place) is = subst (AllAt (length w.net.arcs) (number (length w.net.arcs) t k)) (sym is) ((within, ap (number (length w.net.arcs) t) is_place), tt)
-  arrival_at a i outcome.Nothing es (within, is_place) is = subst (AllAt (length w.net.arcs) (number (length w.net.arcs) t k)) (sym is) ((within, ap (number (length w.net.arcs) t) is_place), tt)
+  arrival_at a i r es (within, is_place) with' = by_test (is_frame_result r) with'
+    where
+      by_test : (is_user : Bool) → EventsOf w past t is_user a i r es → AllAt (length w.net.arcs) (number (length w.net.arcs) t k) es
+      by_test true (f, octets, frame, gives, is) =
+          subst (AllAt (length w.net.arcs) (number (length w.net.arcs) t k)) (sym is) ((within, ap (number (length w.net.arcs) t) is_place), delivered_at a (arc w a).to.0 f octets (next_arc w a f) (within, is_place))
+      by_test false is = subst (AllAt (length w.net.arcs) (number (length w.net.arcs) t k)) (sym is) ((within, ap (number (length w.net.arcs) t) is_place), tt)
 
   arriving_at : (a : ℕ) (e : Ended) (es : List PlainEvent) → HasPlace (length w.net.arcs) k (Phase.arrivals a) → Arriving w past t a e es → AllAt (length w.net.arcs) (number (length w.net.arcs) t k) es
   arriving_at a e es place (inl (due, (r, result, delivers))) = arrival_at a e.ord r es place delivers

@@ -17,14 +17,13 @@ use Rattle.pre_history.specs.Octets.{WholeOf, whole_of, Air, AdvertAt}
 use Rattle.pre_history.specs.Starts.{SizeOf}
 use Rattle.pre_history.specs.Comings.{frame_at, next_arc, Comings, EntriesOf}
 use Rattle.pre_history.specs.Rules.{OneOrNone, Each, CheckOf, SetsAt, delivered, change, arrival, EndDue, Arriving, HappensIn, Happens}
-use Rattle.pre_history.specs.Placed.{HasPlace}
-use Rattle.pre_history.specs.Legal.{LegalUpTo, IsLastOf, Alias}
+use Rattle.pre_history.specs.Placed.{HasPlace, number, moment_of}
+use Rattle.pre_history.specs.Legal.{LegalUpTo, IsLastOf, Alias, ArrivesAsAlias}
 use Rattle.pre_history.proofs.Lists.{any_at, there, within}
 use Rattle.pre_history.proofs.Sizes.{size_one}
 use Rattle.pre_history.proofs.Decided.{size_found}
-use Rattle.pre_history.proofs.Placing.{place_at}
+use Rattle.pre_history.proofs.Placing.{place_at, numbered}
 use Rattle.pre_history.proofs.InOrder.{steady}
-use Rattle.pre_history.specs.Next.{AliasNext}
 use Rattle.pre_history.proofs.Decisions.{tested, equal}
 use Rattle.pre_history.proofs.GivenDecided.{gives_decided, lost_decided}
 use Rattle.pre_history.proofs.LinksDecided.{is_negotiate, active_decided, active_before_decided}
@@ -36,13 +35,14 @@ each_some : {X : Type 0} (R : X → List PlainEvent → Type 0) (xs : List X) �
 each_some R [] some = ([], refl)
 each_some R (x ∷ xs) some = let o = some x in let more = each_some R xs some in (o.0 ++ more.0, (o.0, more.0, o.1, more.1, refl))
 
-each_or : {X : Type 0} (R : X → List PlainEvent → Type 0) (B : X → Type 0) (xs : List X) → ((i : ℕ) (x : X) → slice_get xs i ≡ Some x → ((es : List PlainEvent) × R x es) ⊎ B x)
-    → ((es : List PlainEvent) × Each R xs es) ⊎ ((i : ℕ) × (x : X) × (slice_get xs i ≡ Some x) × B x)
+-- those of each element have events, or B holds
+each_or : {X : Type 0} (R : X → List PlainEvent → Type 0) (B : Type 0) (xs : List X) → ((i : ℕ) (x : X) → slice_get xs i ≡ Some x → ((es : List PlainEvent) × R x es) ⊎ B)
+    → ((es : List PlainEvent) × Each R xs es) ⊎ B
 each_or R B [] some = inl ([], refl)
 each_or R B (x ∷ xs) some = elim (some 0 x refl) [
-  | inr bad ↦ inr (0, x, refl, bad)
+  | inr bad ↦ inr bad
   | inl here ↦ elim (each_or R B xs (λ i y at. some (suc i) y at)) [
-    | inr (i, y, at, bad) ↦ inr (suc i, y, at, bad)
+    | inr bad ↦ inr bad
     | inl more ↦ inl (here.0 ++ more.0, (here.0, more.0, here.1, more.1, refl))
   ]
 ]
@@ -80,34 +80,34 @@ module _ (w : Scenario) where
         -- what isn't a user frame and arrives as one is an alias
         not_last : (octets : List ℕ) → is_lldp_frame octets ≡ false → (x : What) → begun.0.what ≡ x → ((f : _) → x ≢ what.Frame f) → ¬ IsLastOf w h a i octets
         not_last octets user (what.Frame f) is other last' = other f refl
-        not_last octets user what.Nothing is other last' = ((last_is w n h legal a a_lt i begun.0 e begun.1 at octets).0 last').0 is
+        not_last octets user what.Nothing is other last' = ((last_is w h a i begun.0 e begun.1 at octets).0 last').0 is
         not_last octets user what.Lldp is other last' =
-            let o = (last_is w n h legal a a_lt i begun.0 e begun.1 at octets).0 last' in
+            let o = (last_is w h a i begun.0 e begun.1 at octets).0 last' in
             let whole : octets ≡ lldp_frame (arc w begun.0.arc).from.0 begun.0.arc (AdvertAt w h begun.0.arc begun.0.tick) = o.1 ∙ ap (whole_of w h begun.0) is in
             let lldp : is_lldp_frame octets ≡ true = ap is_lldp_frame whole ∙ sent_lldp (arc w begun.0.arc).from.0 begun.0.arc (AdvertAt w h begun.0.arc begun.0.tick) in
             cc (sym user ∙ lldp)
 
-        arrives_frame : (octets : List ℕ) → Gives (Air w h a) i (Given.frame octets) → ((es : List PlainEvent) × Arriving w h t a e es) ⊎ ((e.tick + (arc w a).delay ≡ t) × Alias w h a e.ord)
+        arrives_frame : (octets : List ℕ) → Gives (Air w h a) i (Given.frame octets) → ((es : List PlainEvent) × Arriving w h t a e es) ⊎ ArrivesAsAlias w h t a i
         arrives_frame octets gives = go (is_lldp_frame octets) refl
           where
             gives' : Gives (Air w h a) e.ord (Given.frame octets)
             gives' = subst (λ j. Gives (Air w h a) j (Given.frame octets)) (sym ord) gives
 
-            by_what : is_lldp_frame octets ≡ false → (x : What) → begun.0.what ≡ x → ((es : List PlainEvent) × Arriving w h t a e es) ⊎ ((e.tick + (arc w a).delay ≡ t) × Alias w h a e.ord)
+            by_what : is_lldp_frame octets ≡ false → (x : What) → begun.0.what ≡ x → ((es : List PlainEvent) × Arriving w h t a e es) ⊎ ArrivesAsAlias w h t a i
             by_what user (what.Frame f) is =
                 let frame : frame_at h a e.ord ≡ Some f.0 = ap (frame_at h a) ord ∙ (ap (λ (o : Option Begin). option_and_then (λ b. frame_in b.what) o) begun.1 ∙ ap frame_in is) in
                 inl (
                   arrival t a e.ord outcome.Frame ∷ delivered t (arc w a).to.0 f.0 octets (next_arc w a f.0),
                   inl (due, (outcome.Frame, inr (inl (Given.frame octets, gives', ap (λ b. if b then outcome.Lldp else outcome.Frame) (sym user))), (f.0, octets, frame, gives', refl))),
                 )
-            by_what user what.Lldp is = inr (due, subst (Alias w h a) (sym ord) (inr (inr (octets, gives, not_last octets user what.Lldp is (λ f x. cc x)))))
-            by_what user what.Nothing is = inr (due, subst (Alias w h a) (sym ord) (inr (inr (octets, gives, not_last octets user what.Nothing is (λ f x. cc x)))))
+            by_what user what.Lldp is = inr (e, at, due, inr (inr (octets, gives, not_last octets user what.Lldp is (λ f x. cc x))))
+            by_what user what.Nothing is = inr (e, at, due, inr (inr (octets, gives, not_last octets user what.Nothing is (λ f x. cc x))))
 
-            go : (b : Bool) → is_lldp_frame octets ≡ b → ((es : List PlainEvent) × Arriving w h t a e es) ⊎ ((e.tick + (arc w a).delay ≡ t) × Alias w h a e.ord)
+            go : (b : Bool) → is_lldp_frame octets ≡ b → ((es : List PlainEvent) × Arriving w h t a e es) ⊎ ArrivesAsAlias w h t a i
             go true is = inl (arrival t a e.ord outcome.Lldp ∷ [], inl (due, (outcome.Lldp, inr (inl (Given.frame octets, gives', ap (λ b. if b then outcome.Lldp else outcome.Frame) (sym is))), refl)))
             go false is = by_what is begun.0.what refl
 
-        arrives : ((es : List PlainEvent) × Arriving w h t a e es) ⊎ ((e.tick + (arc w a).delay ≡ t) × Alias w h a e.ord)
+        arrives : ((es : List PlainEvent) × Arriving w h t a e es) ⊎ ArrivesAsAlias w h t a i
         arrives = elim (lost_decided (Air w h a) e.ord) [
           | inl lost ↦ inl (arrival t a e.ord outcome.Lost ∷ [], inl (due, (outcome.Lost, inl (lost, refl), refl)))
           | inr here ↦ elim (gives_decided (Air w h a) e.ord) [
@@ -116,13 +116,13 @@ module _ (w : Scenario) where
           ]
         ]
           where
-            by_given : (g : Given) → Gives (Air w h a) e.ord g → ((es : List PlainEvent) × Arriving w h t a e es) ⊎ ((e.tick + (arc w a).delay ≡ t) × Alias w h a e.ord)
+            by_given : (g : Given) → Gives (Air w h a) e.ord g → ((es : List PlainEvent) × Arriving w h t a e es) ⊎ ArrivesAsAlias w h t a i
             by_given (Given.frame octets) gives = arrives_frame octets (subst (λ j. Gives (Air w h a) j (Given.frame octets)) ord gives)
             by_given Given.part gives = inl (arrival t a e.ord outcome.Part ∷ [], inl (due, (outcome.Part, inr (inl (Given.part, gives, refl)), refl)))
             by_given Given.verify gives = inl (arrival t a e.ord outcome.Verify ∷ [], inl (due, (outcome.Verify, inr (inl (Given.verify, gives, refl)), refl)))
             by_given Given.respond gives = inl (arrival t a e.ord outcome.Respond ∷ [], inl (due, (outcome.Respond, inr (inl (Given.respond, gives, refl)), refl)))
 
-      arriving_some : (i : ℕ) (e : Ended) → slice_get (Ends h a) i ≡ Some e → ((es : List PlainEvent) × Arriving w h t a e es) ⊎ ((e.tick + (arc w a).delay ≡ t) × Alias w h a e.ord)
+      arriving_some : (i : ℕ) (e : Ended) → slice_get (Ends h a) i ≡ Some e → ((es : List PlainEvent) × Arriving w h t a e es) ⊎ ArrivesAsAlias w h t a i
       arriving_some i e at = elim (equal (e.tick + (arc w a).delay) t) [
         | inr later ↦ inl ([], inr (later, refl))
         | inl due ↦ arrives i e at due
@@ -150,7 +150,7 @@ module _ (w : Scenario) where
 
     -- an alias is due on this arc
     abbrev DueAlias : ℕ → Phase → Type 0
-    DueAlias t p = (a : ℕ) × (i : ℕ) × (p ≡ Phase.arrivals a) × Any (λ e. (e.ord ≡ i) × (e.tick + (arc w a).delay ≡ t)) (Ends h a) × Alias w h a i
+    DueAlias t p = (a : ℕ) × (i : ℕ) × (p ≡ Phase.arrivals a) × ArrivesAsAlias w h t a i
 
     phase_some : (t k : ℕ) (p : Phase) → HasPlace (length w.net.arcs) k p → ((es : List PlainEvent) × HappensIn w h t p es) ⊎ DueAlias t p
     unfolding HappensIn
@@ -159,13 +159,23 @@ module _ (w : Scenario) where
     phase_some t k (Phase.ends a) (a_lt, place) = inl (each_some (λ b fs. OneOrNone (EndDue w h t b) fs) (Begins h a) (end_some w h t))
     phase_some t k (Phase.expiries a) (a_lt, place) = inl (expiry_some t a a_lt)
     phase_some t k (Phase.starts a) (a_lt, place) = inl (start_some t a a_lt)
-    phase_some t k (Phase.arrivals a) (a_lt, place) = elim (each_or (Arriving w h t a) (λ e. (e.tick + (arc w a).delay ≡ t) × Alias w h a e.ord) (Ends h a) (arriving_some t a a_lt)) [
+    phase_some t k (Phase.arrivals a) (a_lt, place) = elim (each_or (Arriving w h t a) ((i : ℕ) × ArrivesAsAlias w h t a i) (Ends h a) (λ i e at. by_place i (arriving_some t a a_lt i e at))) [
       | inl some ↦ inl some
-      | inr (i, e, at, (due, alias)) ↦ inr (a, e.ord, refl, any_at (λ (x : Ended). (x.ord ≡ e.ord) × (x.tick + (arc w a).delay ≡ t)) (Ends h a) i e at (refl, due), alias)
+      | inr (i, alias) ↦ inr (a, i, refl, alias)
     ]
+      where
+        by_place : {Q : Type 0} (i : ℕ) → Q ⊎ ArrivesAsAlias w h t a i → Q ⊎ ((i : ℕ) × ArrivesAsAlias w h t a i)
+        by_place i (inl some) = inl some
+        by_place i (inr alias) = inr (i, alias)
 
-    pub progress : ((es : List PlainEvent) × Happens w h (moment_at (length w.net.arcs) n) es) ⊎ ((a i : ℕ) × AliasNext w h n a i)
-    progress = elim (phase_some (n / moments (length w.net.arcs)) (n % moments (length w.net.arcs)) (phase_at (length w.net.arcs) (n % moments (length w.net.arcs))) (place_at (length w.net.arcs) n)) [
+    pub progress : ((es : List PlainEvent) × Happens w h (moment_at (length w.net.arcs) n) es)
+        ⊎ ((t a i : ℕ) × (a < length w.net.arcs) × (n ≡ moment_of w t (Phase.arrivals a)) × ArrivesAsAlias w h t a i)
+    progress = elim (phase_some tick (n % moments (length w.net.arcs)) (phase_at (length w.net.arcs) (n % moments (length w.net.arcs))) (place_at (length w.net.arcs) n)) [
       | inl some ↦ inl some
-      | inr (a, i, is, due, alias) ↦ inr (a, i, (n / moments (length w.net.arcs), ap (λ (p : Phase). record { tick = n / moments (length w.net.arcs); phase = p }) is, due, alias))
+      | inr (a, i, is, alias) ↦
+          let place : HasPlace (length w.net.arcs) (n % moments (length w.net.arcs)) (Phase.arrivals a) = subst (HasPlace (length w.net.arcs) (n % moments (length w.net.arcs))) is (place_at (length w.net.arcs) n) in
+          inr (tick, a, i, place.0, numbered (length w.net.arcs) n ∙ ap (number (length w.net.arcs) tick) place.1, alias)
     ]
+      where
+        tick : ℕ
+        tick = n / moments (length w.net.arcs)

@@ -9,7 +9,7 @@ use Rattle.pre_history.specs.Scenario.{Scenario}
 use Rattle.pre_history.specs.History.{History, Begin, Ended}
 use Rattle.pre_history.specs.Selected.{begin_on, ended_on}
 use Rattle.pre_history.specs.Queries.{Begins, Ends, Packet, packet, end_of, Packets, PacketsBefore, LastRun, Rest, Interrupted}
-use Rattle.pre_history.specs.Placed.{IsLater, AllLater}
+use Rattle.pre_history.proofs.IsLater.{IsLater, AllLater}
 use Rattle.pre_history.proofs.Lists.{every_filter, every_selected, no_append}
 use Rattle.pre_history.proofs.LaterEnds.{begin_later, end_later}
 use Rattle.pre_history.proofs.Zips.{zip_map, zip_filter, zip_from_last, zip_left, zip_right, every_of_all}
@@ -86,9 +86,9 @@ module _ (h es : History) (t : ℕ) (later : AllLater t es) (a : ℕ) where
   pub interrupted_stays : (w : Scenario) (r : Rest) → Interrupted w (h ++ es) a t r ↔ Interrupted w h a t r
   interrupted_stays w r = (
     (λ (first, more, run, ended, cut, is).
-        let ends = subst (Every (EndedBy t)) (sym run) (every_of_all (EndedBy t) (first ∷ more) ended) in
+        let ends = subst (Every (EndedBy t)) (sym run) ended in
         (first, more, sym (zip_left (IsLike t) (EndedBy t) (like_left t) (LastRun (h ++ es) a t) (LastRun h a t) run_like ends) ∙ run, ended, cut, is)),
     (λ (first, more, run, ended, cut, is).
-        let ends = subst (Every (EndedBy t)) (sym run) (every_of_all (EndedBy t) (first ∷ more) ended) in
+        let ends = subst (Every (EndedBy t)) (sym run) ended in
         (first, more, zip_right (IsLike t) (EndedBy t) (like_right t) (LastRun (h ++ es) a t) (LastRun h a t) run_like ends ∙ run, ended, cut, is)),
   )

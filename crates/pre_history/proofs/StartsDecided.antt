@@ -31,11 +31,6 @@ is_pass : (p : Policy) → IsDecided (p ≡ policy.Pass)
 is_pass policy.Pass = inl refl
 is_pass policy.Quiet = inr (λ e. cc e)
 
-all_of_every : {X : Type 0} (P : X → Type 0) (xs : List X) → Every P xs → All P xs
-all_of_every P [] every k d lt = absurd (omega (arith, lt))
-all_of_every P (x ∷ xs) (here, more) zero d lt = here
-all_of_every P (x ∷ xs) (here, more) (suc k) d lt = all_of_every P xs more k d (omega (arith, lt))
-
 every_decided : {X : Type 0} (P : X → Type 0) → ((x : X) → IsDecided (P x)) → (xs : List X) → IsDecided (Every P xs)
 every_decided P decided [] = inl tt
 every_decided P decided (x ∷ xs) = both (decided x) (every_decided P decided xs)
@@ -125,12 +120,12 @@ module _ (w : Scenario) (h : History) (a t : ℕ) where
       go : (run : List Packet) → LastRun h a t ≡ run → ((r : Rest) × Interrupted w h a t r) ⊎ ((r : Rest) → ¬ Interrupted w h a t r)
       go [] is = inr (λ r (first, more, run, ended, cut, left). absurd (cc (sym is ∙ run)))
       go (first ∷ more) is = elim (both (every_decided (EndedBy t) ended_by (first ∷ more)) (negated (equal_lists (joined_data w h (first ∷ more) ++ last_check w h (first ∷ more)) (FrameOf w (frame_number first.begin.what))))) [
-        | inl (ended, cut) ↦ inl (rest_of w h first more, (first, more, is, all_of_every (EndedBy t) (first ∷ more) ended, cut, refl))
+        | inl (ended, cut) ↦ inl (rest_of w h first more, (first, more, is, ended, cut, refl))
         | inr nay ↦ inr (λ r (first', more', run, ended, cut, left).
             let same : first' ∷ more' ≡ first ∷ more = sym run ∙ is in
             let head : first' ≡ first = cc same in
             nay (
-              subst (Every (EndedBy t)) same (every_of_all (EndedBy t) (first' ∷ more') ended),
+              subst (Every (EndedBy t)) same ended,
               (λ e. cut (ap (λ l. joined_data w h l ++ last_check w h l) same ∙ (e ∙ ap (λ (p : Packet). FrameOf w (frame_number p.begin.what)) (sym head)))),
             ))
       ]

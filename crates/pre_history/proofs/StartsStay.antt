@@ -13,7 +13,7 @@ use Rattle.pre_history.specs.Selected.{begin_on}
 use Rattle.pre_history.specs.Queries.{Begins}
 use Rattle.pre_history.specs.LinkState.{Active}
 use Rattle.pre_history.specs.Starts.{Item, Choice, IsFront, starts_before, PreemptableAs, There, StartRule}
-use Rattle.pre_history.specs.Placed.{IsLater, AllLater}
+use Rattle.pre_history.proofs.IsLater.{IsLater, AllLater}
 use Rattle.pre_history.specs.Legal.{LegalUpTo}
 use Rattle.pre_history.proofs.Later.{waiting_later}
 use Rattle.pre_history.proofs.LaterEnds.{begin_later, occupied_later}

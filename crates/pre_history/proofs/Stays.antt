@@ -20,7 +20,7 @@ use Rattle.pre_lldp.specs.LldpLayout.{lldp_frame}
 use Rattle.pre_history.specs.Starts.{ExpressWaits, begun, SizeOf}
 use Rattle.pre_crc.specs.Checks.{Mcrc}
 use Rattle.pre_history.specs.Rules.{CheckOf, last_four}
-use Rattle.pre_history.specs.Placed.{IsLater, AllLater}
+use Rattle.pre_history.proofs.IsLater.{IsLater, AllLater}
 use Rattle.pre_history.proofs.Lists.{every_weaker, none_selected, no_append}
 use Rattle.pre_history.proofs.Later.{waiting_later}
 

@@ -11,7 +11,8 @@ use Rattle.pre_history.specs.Moments.{moments}
 use Rattle.pre_history.specs.Selected.{begin_on, ended_on, arrive_on}
 use Rattle.pre_history.specs.Queries.{Begins, Ends, Arrivals}
 use Rattle.pre_history.specs.Rules.{Each}
-use Rattle.pre_history.specs.Placed.{number, IsAt, AllAt, IsLater, AllLater}
+use Rattle.pre_history.specs.Placed.{number, IsAt, AllAt}
+use Rattle.pre_history.proofs.IsLater.{IsLater, AllLater}
 use Rattle.pre_history.proofs.Lists.{every_weaker, none_selected}
 use Rattle.pre_history.proofs.Placing.{same_tick, same_place}
 

@@ -19,7 +19,7 @@ use Rattle.pre_history.specs.Selected.{begin_on, ended_on, arrive_on, active_on,
 use Rattle.pre_history.specs.Queries.{Begins, Ends, Arrivals, Packet, Packets, PacketsBefore, packet, end_of}
 use Rattle.pre_history.specs.Octets.{ToldActive, SentOctets, Damaged, is_lost, Arrived, Air}
 use Rattle.pre_history.specs.LinkState.{Good, VerifiesBefore, RespondTicks, Verified, ActiveIn, Active}
-use Rattle.pre_history.specs.Placed.{IsLater, AllLater}
+use Rattle.pre_history.proofs.IsLater.{IsLater, AllLater}
 use Rattle.pre_history.specs.Legal.{LegalUpTo}
 use Rattle.pre_history.proofs.Lists.{any_at, found_at, at_front, every_at, every_weaker, every_selected, filter_nil, no_append, one_at, there, within}
 use Rattle.pre_history.proofs.Chosen.{from_filter, into_filter, from_map, into_map, take_like, last_there}

@@ -1,20 +1,11 @@
 -- A legal history cut before a moment.
-use Rattle.std.specs.Prelude.{ℕ, suc, ◌<◌, ◌≤◌, ◌≡◌, ◌++◌, List, length}
-use Rattle.std.specs.List.{AllByRecursion as Every}
+use Rattle.std.specs.Prelude.{ℕ, suc, ◌≡◌, ◌++◌, List, length}
 use Rattle.pre_history.specs.Scenario.{Scenario}
 use Rattle.pre_history.specs.Moments.{moment_at}
 use Rattle.pre_history.specs.History.{PlainEvent, History}
-use Rattle.pre_history.specs.Placed.{IsAt}
+use Rattle.pre_history.specs.Placed.{AllWithin}
 use Rattle.pre_history.specs.Rules.{Happens}
 use Rattle.pre_history.specs.Legal.{LegalUpTo}
-
--- The event stands at a moment from m up to n.
-abbrev pub IsWithin : (arcs m n : ℕ) → PlainEvent → Type 0
-IsWithin arcs m n e = (k : ℕ) × (m ≤ k) × (k < n) × IsAt arcs k e
-
--- so does each of these
-abbrev pub AllWithin : (arcs m n : ℕ) → List PlainEvent → Type 0
-AllWithin arcs m n es = Every (IsWithin arcs m n) es
 
 -- A history before moment n is cut before moment m: the front is legal, and the rest stands at moments from m on.
 pub record IsCut (w : Scenario) (m n : ℕ) (h front rest : History) : Type 0 where

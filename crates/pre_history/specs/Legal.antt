@@ -1,5 +1,5 @@
 -- Which histories are legal.
-use Rattle.std.specs.Prelude.{ℕ, zero, suc, ◌+◌, ◌*◌, ◌≡◌, ◌≢◌, ◌⊎◌, ◌==◌, ◌&&◌, nat_le, if◌then◌else◌, List, [], ◌∷◌, ◌++◌, length, count_by, Any, All, IsTrue, IsFalse}
+use Rattle.std.specs.Prelude.{ℕ, zero, suc, ◌+◌, ◌*◌, ◌<◌, ◌≤◌, ◌≡◌, ◌≢◌, ◌⊎◌, ◌==◌, ◌&&◌, nat_le, if◌then◌else◌, List, [], ◌∷◌, ◌++◌, length, count_by, Some, slice_get, All, IsTrue, IsFalse}
 use Rattle.pre_mpacket.specs.declared.packets.Kind.{Kind}
 use Rattle.pre_mpacket.specs.declared.packets.Kind.TheVariants as kind
 use Rattle.pre_mpacket.specs.Arrivals.{Given, Gives, is_continue}
@@ -7,9 +7,10 @@ use Rattle.pre_mpacket.specs.Counters.{CountersOf}
 use Rattle.pre_history.specs.declared.events.What.TheVariants as what
 use Rattle.pre_history.specs.Scenario.{Scenario, arc}
 use Rattle.pre_history.specs.Moments.{Phase, moments, moment_at}
-use Rattle.pre_history.specs.History.{Counts, End, PlainEvent, History}
+use Rattle.pre_history.specs.Placed.{moment_of}
+use Rattle.pre_history.specs.History.{Begin, Ended, Counts, End, PlainEvent, History}
 use Rattle.pre_history.specs.Selected.{is_dropped, what_is}
-use Rattle.pre_history.specs.Queries.{Packets, Begins, Ends, Arrivals, Deliveries}
+use Rattle.pre_history.specs.Queries.{Begins, Ends, Arrivals, Deliveries}
 use Rattle.pre_history.specs.Octets.{WholeOf, Air, names_loss, names_damage}
 use Rattle.pre_history.specs.Rules.{Happens}
 
@@ -19,32 +20,35 @@ module _ (w : Scenario) where
   LegalUpTo zero h = h ≡ []
   LegalUpTo (suc n) h = (past : History) × (es : List PlainEvent) × (h ≡ past ++ es) × LegalUpTo n past × Happens w past (moment_at (length w.net.arcs) n) es
 
+-- mPacket i of the arc is of this kind
+abbrev pub IsOfKind : History → ℕ → ℕ → Kind → Type 0
+IsOfKind h a i k = (b : Begin) × (slice_get (Begins h a) i ≡ Some b) × (b.kind ≡ k)
+
 module _ (w : Scenario) (h : History) where
-  -- mPacket i of the arc is the last one of a frame with these octets
+  -- mPacket i of the arc ended, and is the last one of a frame with these octets
   abbrev pub IsLastOf : ℕ → ℕ → List ℕ → Type 0
   IsLastOf a i octets =
-      Any (λ p. (p.begin.ord ≡ i) × (p.begin.what ≢ what.Nothing) × (octets ≡ WholeOf w h p.begin) × Any (λ e. (e.ord ≡ i) × (p.begin.from + e.size ≡ length octets)) (Ends h a)) (Packets h a)
-
-  -- mPacket i of the arc is of this kind
-  abbrev pub IsOfKind : ℕ → ℕ → Kind → Type 0
-  IsOfKind a i k = Any (λ b. (b.ord ≡ i) × (b.kind ≡ k)) (Begins h a)
+      (b : Begin) × (e : Ended) × (slice_get (Begins h a) i ≡ Some b) × (slice_get (Ends h a) i ≡ Some e)
+      × (b.what ≢ what.Nothing) × (octets ≡ WholeOf w h b) × (b.from + e.size ≡ length octets)
 
   -- Arrival i of the arc gives a verify, respond or frame that isn't the one sent.
   abbrev pub Alias : ℕ → ℕ → Type 0
   Alias a i =
-      (Gives (Air w h a) i Given.verify × ¬ IsOfKind a i kind.Verify)
-      ⊎ (Gives (Air w h a) i Given.respond × ¬ IsOfKind a i kind.Respond)
+      (Gives (Air w h a) i Given.verify × ¬ IsOfKind h a i kind.Verify)
+      ⊎ (Gives (Air w h a) i Given.respond × ¬ IsOfKind h a i kind.Respond)
       ⊎ ((octets : List ℕ) × Gives (Air w h a) i (Given.frame octets) × ¬ IsLastOf a i octets)
 
   -- The history is legal before moment n, and none of its arrivals is an alias.
   abbrev pub LegalBefore : ℕ → Type 0
-  LegalBefore n = LegalUpTo w n h × ((a : ℕ) → All (λ x. ¬ Alias a x.ord) (Arrivals h a))
+  LegalBefore n = LegalUpTo w n h × ((a i : ℕ) → i < length (Arrivals h a) → ¬ Alias a i)
 
-  -- The history is legal before moment n, the arrivals of the arc, and then the mPacket arrives as an alias.
-  abbrev pub FirstAlias : ℕ → ℕ → Type 0
-  FirstAlias a i =
-      (n t : ℕ) × LegalBefore n × (moment_at (length w.net.arcs) n ≡ record { tick = t; phase = Phase.arrivals a })
-      × Any (λ e. (e.ord ≡ i) × (e.tick + (arc w a).delay ≡ t)) (Ends h a) × Alias a i
+  -- mPacket i of the arc is due to arrive at the tick, as an alias.
+  abbrev pub ArrivesAsAlias : (t a i : ℕ) → Type 0
+  ArrivesAsAlias t a i = (e : Ended) × (slice_get (Ends h a) i ≡ Some e) × (e.tick + (arc w a).delay ≡ t) × Alias a i
+
+  -- The history is legal before the arrivals of the arc at a tick up to `until`, and then mPacket i arrives as the first alias.
+  abbrev pub FirstAliasAt : (t a i : ℕ) → Type 0
+  FirstAliasAt t a i = (t ≤ w.script.until.0) × (a < length w.net.arcs) × LegalBefore (moment_of w t (Phase.arrivals a)) × ArrivesAsAlias t a i
 
   -- the counters of the arc: those of what arrived, and the continuations begun
   abbrev pub CountsOf : ℕ → Counts → Type 0

@@ -20,4 +20,3 @@ pub mod Examples
 pub mod Cuts
 pub mod Stays
 pub mod Read
-pub mod Next

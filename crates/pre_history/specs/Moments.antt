@@ -10,11 +10,20 @@ pub record Moment : Type 0 where
   pub tick : ℕ
   pub phase : Phase
 
+-- the place of a phase in its tick, with this many arcs
+abbrev pub place_of : ℕ → Phase → ℕ
+place_of arcs sets = 0
+place_of arcs (ends a) = 1 + a
+place_of arcs (arrivals a) = 1 + arcs + a
+place_of arcs (expiries a) = 1 + 2 * arcs + a
+place_of arcs entries = 1 + 3 * arcs
+place_of arcs (starts a) = 2 + 3 * arcs + a
+
 -- With this many arcs a tick has so many moments.
 abbrev pub moments : ℕ → ℕ
 moments arcs = 4 * arcs + 2
 
--- place k of a tick
+-- the phase at place k of a tick
 abbrev pub phase_at : ℕ → ℕ → Phase
 phase_at arcs k =
     if k == 0 then sets

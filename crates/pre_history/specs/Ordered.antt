@@ -5,7 +5,8 @@ use Rattle.pre_history.specs.History.{Begin, Ended, Arrive, History}
 use Rattle.pre_history.specs.Queries.{Begins, Ends, Arrivals}
 use Rattle.pre_history.specs.Starts.{SizeOf}
 use Rattle.pre_history.specs.Rules.{CheckOf}
-use Rattle.pre_history.specs.Placed.{number}
+use Rattle.pre_history.specs.Moments.{Phase}
+use Rattle.pre_history.specs.Placed.{moment_of}
 
 -- mPackets, their ends and their arrivals, at so many ticks for an octet and such a delay
 pub record AreOrdered (cost delay : ℕ) (begins : List Begin) (ends : List Ended) (arrivals : List Arrive) : Type 0 where
@@ -39,4 +40,4 @@ module _ (w : Scenario) (h : History) (a : ℕ) where
   abbrev pub HaveArrived : ℕ → Type 0
   HaveArrived n =
       (i : ℕ) (e : Ended) → slice_get (Ends h a) i ≡ Some e
-      → number (length w.net.arcs) (e.tick + (arc w a).delay) (1 + length w.net.arcs + a) < n → i < length (Arrivals h a)
+      → moment_of w (e.tick + (arc w a).delay) (Phase.arrivals a) < n → i < length (Arrivals h a)

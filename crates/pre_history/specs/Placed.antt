@@ -1,32 +1,40 @@
--- At which moments events stand, and which events no query at a tick reads.
-use Rattle.std.specs.Prelude.{ℕ, ◌+◌, ◌*◌, ◌<◌, ◌≤◌, ◌≡◌, List}
+-- At which moments events stand.
+use Rattle.std.specs.Prelude.{ℕ, ◌+◌, ◌*◌, ◌<◌, ◌≤◌, ◌≡◌, List, length}
 use Rattle.std.specs.List.{AllByRecursion as Every}
 use Rattle.pre_history.specs.History.{PlainEvent}
-use Rattle.pre_history.specs.Moments.{Phase, moments}
-
--- With this many arcs the phase is place k of its tick.
-abbrev pub HasPlace : ℕ → ℕ → Phase → Type 0
-HasPlace arcs k Phase.sets = k ≡ 0
-HasPlace arcs k (Phase.ends a) = (a < arcs) × (k ≡ 1 + a)
-HasPlace arcs k (Phase.arrivals a) = (a < arcs) × (k ≡ 1 + arcs + a)
-HasPlace arcs k (Phase.expiries a) = (a < arcs) × (k ≡ 1 + 2 * arcs + a)
-HasPlace arcs k Phase.entries = k ≡ 1 + 3 * arcs
-HasPlace arcs k (Phase.starts a) = (a < arcs) × (k ≡ 2 + 3 * arcs + a)
+use Rattle.pre_history.specs.Moments.{Phase, moments, place_of}
+use Rattle.pre_history.specs.Scenario.{Scenario}
 
 -- the number of the moment at this place of the tick
 abbrev pub number : (arcs tick k : ℕ) → ℕ
 number arcs tick k = tick * moments arcs + k
 
+-- the number of the phase of the tick among all moments
+abbrev pub moment_number : (arcs tick : ℕ) → Phase → ℕ
+moment_number arcs tick p = number arcs tick (place_of arcs p)
+
+abbrev pub moment_of : Scenario → (tick : ℕ) → Phase → ℕ
+moment_of w tick p = moment_number (length w.net.arcs) tick p
+
+-- With this many arcs the phase is place k of its tick.
+abbrev pub HasPlace : ℕ → ℕ → Phase → Type 0
+HasPlace arcs k Phase.sets = k ≡ place_of arcs Phase.sets
+HasPlace arcs k (Phase.ends a) = (a < arcs) × (k ≡ place_of arcs (Phase.ends a))
+HasPlace arcs k (Phase.arrivals a) = (a < arcs) × (k ≡ place_of arcs (Phase.arrivals a))
+HasPlace arcs k (Phase.expiries a) = (a < arcs) × (k ≡ place_of arcs (Phase.expiries a))
+HasPlace arcs k Phase.entries = k ≡ place_of arcs Phase.entries
+HasPlace arcs k (Phase.starts a) = (a < arcs) × (k ≡ place_of arcs (Phase.starts a))
+
 -- An event that stands at moment n. Closing events stand at none.
 abbrev pub IsAt : ℕ → ℕ → PlainEvent → Type 0
-IsAt arcs n (PlainEvent.set tick a value) = n ≡ number arcs tick 0
-IsAt arcs n (PlainEvent.ended e) = (e.arc < arcs) × (n ≡ number arcs e.tick (1 + e.arc))
-IsAt arcs n (PlainEvent.arrive x) = (x.arc < arcs) × (n ≡ number arcs x.tick (1 + arcs + x.arc))
-IsAt arcs n (PlainEvent.deliver d) = (a : ℕ) × (a < arcs) × (n ≡ number arcs d.tick (1 + arcs + a))
-IsAt arcs n (PlainEvent.active tick a value) = (a < arcs) × (n ≡ number arcs tick (1 + 2 * arcs + a))
-IsAt arcs n (PlainEvent.enter e) = n ≡ number arcs e.tick (1 + 3 * arcs)
-IsAt arcs n (PlainEvent.dropped e) = n ≡ number arcs e.tick (1 + 3 * arcs)
-IsAt arcs n (PlainEvent.begin b) = (b.arc < arcs) × (n ≡ number arcs b.tick (2 + 3 * arcs + b.arc))
+IsAt arcs n (PlainEvent.set tick a value) = n ≡ moment_number arcs tick Phase.sets
+IsAt arcs n (PlainEvent.ended e) = (e.arc < arcs) × (n ≡ moment_number arcs e.tick (Phase.ends e.arc))
+IsAt arcs n (PlainEvent.arrive x) = (x.arc < arcs) × (n ≡ moment_number arcs x.tick (Phase.arrivals x.arc))
+IsAt arcs n (PlainEvent.deliver d) = (a : ℕ) × (a < arcs) × (n ≡ moment_number arcs d.tick (Phase.arrivals a))
+IsAt arcs n (PlainEvent.active tick a value) = (a < arcs) × (n ≡ moment_number arcs tick (Phase.expiries a))
+IsAt arcs n (PlainEvent.enter e) = n ≡ moment_number arcs e.tick Phase.entries
+IsAt arcs n (PlainEvent.dropped e) = n ≡ moment_number arcs e.tick Phase.entries
+IsAt arcs n (PlainEvent.begin b) = (b.arc < arcs) × (n ≡ moment_number arcs b.tick (Phase.starts b.arc))
 IsAt arcs n (PlainEvent.count a c) = ⊥
 IsAt arcs n (PlainEvent.end e) = ⊥
 
@@ -42,18 +50,14 @@ IsBefore arcs n e = (m : ℕ) × (m < n) × IsAt arcs m e
 abbrev pub AllBefore : ℕ → ℕ → List PlainEvent → Type 0
 AllBefore arcs n es = Every (IsBefore arcs n) es
 
--- No query at the tick reads the event.
-abbrev pub IsLater : ℕ → PlainEvent → Type 0
-IsLater t (PlainEvent.begin b) = t ≤ b.tick
-IsLater t (PlainEvent.ended e) = t < e.tick
-IsLater t (PlainEvent.arrive x) = t < x.tick
-IsLater t (PlainEvent.enter e) = t < e.tick
-IsLater t (PlainEvent.dropped e) = t < e.tick
-IsLater t (PlainEvent.active s a value) = t ≤ s
-IsLater t (PlainEvent.set s a value) = Unit {0}
-IsLater t (PlainEvent.deliver d) = Unit {0}
-IsLater t (PlainEvent.count a c) = Unit {0}
-IsLater t (PlainEvent.end e) = Unit {0}
+-- it stands at a moment from m up to n
+abbrev pub IsWithin : (arcs m n : ℕ) → PlainEvent → Type 0
+IsWithin arcs m n e = (k : ℕ) × (m ≤ k) × (k < n) × IsAt arcs k e
 
-abbrev pub AllLater : ℕ → List PlainEvent → Type 0
-AllLater t es = Every (IsLater t) es
+-- so does each of these
+abbrev pub AllWithin : (arcs m n : ℕ) → List PlainEvent → Type 0
+AllWithin arcs m n es = Every (IsWithin arcs m n) es
+
+-- These events stand at moments from the starts of the tick on: no query at the tick reads them.
+abbrev pub AreLater : Scenario → ℕ → List PlainEvent → Type 0
+AreLater w t es = (n : ℕ) × AllWithin (length w.net.arcs) (moment_of w t (Phase.starts 0)) n es

@@ -1,6 +1,6 @@
 -- What is read off a history: each query reads the whole list, at a tick.
-use Rattle.std.specs.Prelude.{ℕ, ◌+◌, ◌-◌, ◌*◌, ◌%◌, ◌<◌, ◌≤◌, ◌≡◌, ◌≢◌, ◌==◌, ◌&&◌, not, nat_lt, nat_le, Bool, List, [], ◌∷◌, ◌++◌, length, map, filter, filter_map, flat_map, take, drop, Any, All, Option, Some, None, MatchOption, slice_get, option_map, option_and_then, unwrap_or, ⊤}
-use Rattle.std.specs.List.{list_any}
+use Rattle.std.specs.Prelude.{ℕ, ◌+◌, ◌-◌, ◌*◌, ◌%◌, ◌<◌, ◌≤◌, ◌≡◌, ◌≢◌, ◌==◌, ◌&&◌, not, nat_lt, nat_le, Bool, List, [], ◌∷◌, ◌++◌, length, map, filter, filter_map, flat_map, take, drop, Any, Option, Some, None, MatchOption, slice_get, option_map, option_and_then, unwrap_or, ⊤}
+use Rattle.std.specs.List.{list_any, AllByRecursion as Every}
 use Rattle.pre_script.specs.declared.scripts.Setting.{Setting}
 use Rattle.pre_script.specs.declared.scripts.Setting.TheVariants as setting
 use Rattle.pre_mpacket.specs.Arrivals.{is_start, is_fragment}
@@ -101,6 +101,6 @@ module _ (w : Scenario) (h : History) where
   abbrev pub Interrupted : ℕ → ℕ → Rest → Type 0
   Interrupted a t left =
       (first : Packet) × (more : List Packet) × (LastRun h a t ≡ first ∷ more)
-      × All (λ p. MatchOption p.ended ⊥ (λ e. e.tick ≤ t)) (first ∷ more)
+      × Every (λ p. MatchOption p.ended ⊥ (λ e. e.tick ≤ t)) (first ∷ more)
       × (joined_data (first ∷ more) ++ last_check (first ∷ more) ≢ FrameOf w (frame_number first.begin.what))
       × (left ≡ rest_of first more)

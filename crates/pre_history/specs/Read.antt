@@ -9,7 +9,8 @@ use Rattle.pre_history.specs.Octets.{Air}
 use Rattle.pre_history.specs.Received.{Result}
 use Rattle.pre_history.specs.Starts.{Item, Choice, There}
 use Rattle.pre_history.specs.Comings.{Coming, Comings, EntriesOf, entry_event, frame_at, next_arc}
-use Rattle.pre_history.specs.Placed.{number}
+use Rattle.pre_history.specs.Moments.{Phase}
+use Rattle.pre_history.specs.Placed.{moment_of}
 use Rattle.pre_history.specs.Legal.{LegalUpTo}
 use Rattle.std.specs.List.{AllByRecursion as Every}
 
@@ -73,7 +74,7 @@ pub record HasEntries (w : Scenario) (h : History) (t : ℕ) : Type 0 where
   pub front : History
   pub rest : History
   pub joined : h ≡ front ++ EntriesOf w t front (Comings w h t) ++ rest
-  pub legal : LegalUpTo w (number (length w.net.arcs) t (1 + 3 * length w.net.arcs)) front
+  pub legal : LegalUpTo w (moment_of w t Phase.entries) front
   pub none_before : Every (IsNoEntry t) front
   pub none_after : Every (IsNoEntry t) rest
 

@@ -5,10 +5,10 @@ use Rattle.pre_topo.specs.declared.arcs.Mode.TheVariants as mode
 use Rattle.pre_crc.specs.Checks.{Mcrc}
 use Rattle.pre_mpacket.specs.Arrivals.{Given, Gives}
 use Rattle.pre_history.specs.declared.events.Outcome.{Outcome}
-use Rattle.pre_history.specs.declared.events.Outcome.TheVariants as outcome
 use Rattle.pre_history.specs.Scenario.{Scenario, arc}
 use Rattle.pre_history.specs.Moments.{Phase, Moment}
 use Rattle.pre_history.specs.History.{Begin, Ended, PlainEvent, History}
+use Rattle.pre_history.specs.Selected.{is_frame_result}
 use Rattle.pre_history.specs.Queries.{Begins, Ends}
 use Rattle.pre_history.specs.Octets.{WholeOf, Air}
 use Rattle.pre_history.specs.Received.{Result}
@@ -63,11 +63,14 @@ module _ (w : Scenario) (past : History) (t : ℕ) where
       × (e ≡ PlainEvent.ended (record { tick = t; arc = b.arc; ord = b.ord; size = size; check = CheckOf w past b size }))
 
   -- the events of an arrival with this result: itself, and a delivery where a user frame is at its route's end
-  abbrev pub WithDelivery : ℕ → ℕ → Outcome → List PlainEvent → Type 0
-  WithDelivery a i outcome.Frame es =
+  abbrev pub EventsOf : (is_user : Bool) → ℕ → ℕ → Outcome → List PlainEvent → Type 0
+  EventsOf true a i r es =
       (f : ℕ) × (octets : List ℕ) × (frame_at past a i ≡ Some f) × Gives (Air w past a) i (Given.frame octets)
-      × (es ≡ arrival t a i outcome.Frame ∷ delivered t (arc w a).to.0 f octets (next_arc w a f))
-  WithDelivery a i other es = es ≡ arrival t a i other ∷ []
+      × (es ≡ arrival t a i r ∷ delivered t (arc w a).to.0 f octets (next_arc w a f))
+  EventsOf false a i r es = es ≡ arrival t a i r ∷ []
+
+  abbrev pub WithDelivery : ℕ → ℕ → Outcome → List PlainEvent → Type 0
+  WithDelivery a i r es = EventsOf (is_frame_result r) a i r es
 
   -- an mPacket that ended arrives with its result where its delay is over at this tick, and has no event elsewhere
   abbrev pub Arriving : ℕ → Ended → List PlainEvent → Type 0

@@ -1,4 +1,4 @@
-ghost use Rattle.std.specs.Prelude.{◌↔◌, ◌≡◌, ◌≢◌, ◌⊎◌, ℕ, ◌+◌, ◌*◌, ◌<◌, ◌++◌, [], length, ◌≤◌, slice_get, All, AllPairs, Some, List, Bool, false, Option, true};
+ghost use Rattle.std.specs.Prelude.{◌↔◌, ◌≡◌, ◌≢◌, ◌⊎◌, ℕ, ◌+◌, ◌*◌, ◌<◌, ◌++◌, [], length, ◌≤◌, slice_get, AllPairs, Some, List, Bool, false, Option, true};
 ghost use Rattle.std.specs.Bool.{Decides};
 ghost use Rattle.pre_base.specs.declared.numbers.FrameNo.{FrameNo};
 ghost use Rattle.pre_lldp.specs.Ages.{CountsEnabled, Heard};
@@ -11,33 +11,35 @@ ghost use Rattle.pre_history.specs.Deliveries.{ComeOnce, DeliversOnce, IsDirect,
 ghost use Rattle.pre_history.specs.Comings.{Comings, Coming, entry_for};
 ghost use Rattle.pre_history.specs.Examples.{SendsOneFrame, SendsTwoFrames, one_frame, two_frames};
 ghost use Rattle.pre_history.specs.History.{Begin, Ended, History, Delivery, Entry, PlainEvent};
-ghost use Rattle.pre_history.specs.Legal.{Alias, CountLines, Legal, LegalUpTo, FirstAlias, LegalBefore, last_moment};
+ghost use Rattle.pre_history.specs.Legal.{Alias, CountLines, Legal, LegalUpTo, LegalBefore, FirstAliasAt, ArrivesAsAlias};
 ghost use Rattle.pre_history.specs.LinkState.{Active, AreHeard, Good, RespondTicks, VerifiesBefore, VerifyWanted, Falls, LldpWanted, RespondOwed, Rises};
 ghost use Rattle.pre_history.specs.Moments.{Phase, moment_at};
 ghost use Rattle.pre_history.specs.Ordered.{HaveArrived, HaveChecks, HaveSizes, IsOrdered};
-ghost use Rattle.pre_history.specs.Placed.{AllBefore, AllLater, number};
+ghost use Rattle.pre_history.specs.Placed.{AllBefore, AreLater, AllWithin, moment_of};
 ghost use Rattle.pre_history.specs.Queries.{Arrivals, Begins, Ends, Entries, Occupied, SettingOf, Waiting, Interrupted, Rest};
 ghost use Rattle.pre_history.specs.Rules.{Arriving, EndDue, Happens, HappensIn, OneOrNone};
 ghost use Rattle.pre_history.specs.Scenario.{FrameOf, Scenario, arc, send};
 ghost use Rattle.pre_history.specs.Starts.{ExpressWaits, begun, Choice, IsFront, Item, SizeOf, StartRule, There, whole_frame};
-ghost use Rattle.pre_history.specs.Next.{AliasNext, FirstAliasAt};
 ghost use Rattle.pre_history.specs.Read.{AreDelivered, HasBegun, HasEnded, HasEntries, HasEntry, HaveResults, IsFromArrival, IsIdle, IsTold};
 ghost use Rattle.pre_mpacket.specs.declared.packets.Kind.{Kind};
-ghost use Rattle.pre_history.specs.Cuts.{AllWithin, IsCut, IsCutAt};
+ghost use Rattle.pre_history.specs.Cuts.{IsCut, IsCutAt};
 ghost use Rattle.pre_history.specs.Stays.{SameGiven, SameResults, SameWholes};
 ghost use Rattle.pre_script.specs.declared.scripts.Setting.TheVariants as setting;
 ghost use Rattle.pre_topo.specs.declared.arcs.Mode.TheVariants as mode;
 ghost use Rattle.pre_history.specs.declared.events.What.TheVariants as what;
 ghost use Rattle.pre_mpacket.specs.declared.packets.Kind.TheVariants as kind;
 ghost use Rattle.pre_streams.specs.Fits as streams;
-ghost use Rattle.pre_script.specs.Fits as script;
 
-/// There is at most one legal history of a network, streams and script.
+/// A network, streams and script have at most one legal history, and at most one that is legal before a moment. Either they have
+/// a legal one, or else one that is legal before an arrival, due at a tick up to `until`, which is the first alias; never both.
 pub fn one_history()
-    ensures { (w : Scenario) (g h : History) → Legal w g → Legal w h → g ≡ h }
-{
-    pre_mpacket::one_given();
-}
+    ensures legal { (w : Scenario) (g h : History) → Legal w g → Legal w h → g ≡ h }
+    ensures before { (w : Scenario) (n : ℕ) (g h : History) → LegalBefore w g n → LegalBefore w h n → g ≡ h }
+    ensures some { (w : Scenario) → ((h : History) × Legal w h) ⊎ ((h : History) × (t a i : ℕ) × FirstAliasAt w h t a i) }
+    ensures never_both { (w : Scenario) (g h : History) (t a i : ℕ) → Legal w g → ¬ FirstAliasAt w h t a i }
+    ensures one_alias { (w : Scenario) (g h : History) (s a i t b j : ℕ) → FirstAliasAt w g s a i → FirstAliasAt w h t b j
+        → (g ≡ h) × (s ≡ t) × (a ≡ b) × (i ≡ j) }
+{}
 
 /// In a legal history the mPackets of an arc follow one another: ordinals are places, all but the last have ended,
 /// ends and arrivals stand in order, and none begins before the gap behind the one before it is over. Each that ended
@@ -60,11 +62,13 @@ pub fn idle_moments()
         → ((k : ℕ) → k < n → Happens w h (moment_at (length w.net.arcs) (m + k)) []) → LegalUpTo w (m + n) h }
 {}
 
-/// Later events don't change what waits at a tick, nor whether an arc is occupied or active then.
+/// Events at later moments than those at which a tick is read don't change what waits at the tick, nor whether an arc is occupied
+/// or active then.
 pub fn queries_stay()
-    ensures waiting { (h g : History) (a p t : ℕ) → AllLater t g → Waiting (h ++ g) a p t ≡ Waiting h a p t }
-    ensures occupied { (w : Scenario) (h g : History) (a t : ℕ) → AllLater t g → Occupied w (h ++ g) a t ↔ Occupied w h a t }
-    ensures active { (w : Scenario) (n : ℕ) (h g : History) (a t : ℕ) → a < length w.net.arcs → LegalUpTo w n h → AllLater t g
+    ensures later { (w : Scenario) (t m n : ℕ) (g : History) → moment_of w t (Phase.starts 0) ≤ m → AllWithin (length w.net.arcs) m n g → AreLater w t g }
+    ensures waiting { (w : Scenario) (h g : History) (a p t : ℕ) → AreLater w t g → Waiting (h ++ g) a p t ≡ Waiting h a p t }
+    ensures occupied { (w : Scenario) (h g : History) (a t : ℕ) → AreLater w t g → Occupied w (h ++ g) a t ↔ Occupied w h a t }
+    ensures active { (w : Scenario) (n : ℕ) (h g : History) (a t : ℕ) → a < length w.net.arcs → LegalUpTo w n h → AreLater w t g
         → Active w (h ++ g) a t ↔ Active w h a t }
 {
     pre_mpacket::later_arrivals();
@@ -87,7 +91,7 @@ pub fn deliveries_are_what_was_sent()
 /// are of one frame, and what comes to rings at a tick neither came to those arcs before nor began on them.
 pub fn frames_come_once()
     ensures entries { (w : Scenario) → IsDirect w → (n : ℕ) (h : History) (a p : ℕ) → LegalUpTo w n h → AllPairs (λ d e. d.frame ≢ e.frame) (Entries h a p) }
-    ensures comings { (w : Scenario) → IsDirect w → (t : ℕ) (past : History) → LegalUpTo w (number (length w.net.arcs) t (1 + 3 * length w.net.arcs)) past
+    ensures comings { (w : Scenario) → IsDirect w → (t : ℕ) (past : History) → LegalUpTo w (moment_of w t Phase.entries) past
         → ComeOnce w past (Comings w past t) }
 {
     pre_mpacket::one_mpacket();
@@ -98,7 +102,7 @@ pub fn frames_come_once()
 /// counter of an arc rises. A frame of a script is never an LLDP frame.
 pub fn direct_arrivals()
     ensures user { (w : Scenario) (f : FrameNo) → is_lldp_frame (FrameOf w f.0) ≡ false }
-    ensures no_alias { (w : Scenario) → IsPlain w → (n : ℕ) (h : History) → LegalUpTo w n h → (a : ℕ) → All (λ x. ¬ Alias w h a x.ord) (Arrivals h a) }
+    ensures no_alias { (w : Scenario) → IsPlain w → (n : ℕ) (h : History) → LegalUpTo w n h → (a i : ℕ) → i < length (Arrivals h a) → ¬ Alias w h a i }
     ensures no_counts { (w : Scenario) → IsPlain w → (n : ℕ) (h : History) → LegalUpTo w n h → CountLines w h (length w.net.arcs) [] }
 {
     pre_mpacket::one_mpacket();
@@ -119,7 +123,7 @@ pub fn small_histories_are_legal()
 /// once the arc's expiries of that tick are over.
 pub fn active_is_told()
     ensures { (w : Scenario) (n : ℕ) (h : History) (a t : ℕ) → a < length w.net.arcs → (arc w a).mode ≡ mode.Negotiate → LegalUpTo w n h
-        → number (length w.net.arcs) t (1 + 2 * length w.net.arcs + a) < n → Decides (ToldActive w h a t) (Active w h a t) }
+        → moment_of w t (Phase.expiries a) < n → Decides (ToldActive w h a t) (Active w h a t) }
 {
     pre_mpacket::later_arrivals();
 }
@@ -151,27 +155,28 @@ pub fn tests_are_decided()
 /// In a legal history only the mPacket that hasn't ended yet may end on an arc, and only the next one may arrive: what
 /// happens is what is due for that one, and where there is none nothing happens.
 pub fn turns_are_kept()
-    ensures ends { (w : Scenario) (past : History) (t a : ℕ) → a < length w.net.arcs → LegalUpTo w (number (length w.net.arcs) t (1 + a)) past
+    ensures ends { (w : Scenario) (past : History) (t a : ℕ) → a < length w.net.arcs → LegalUpTo w (moment_of w t (Phase.ends a)) past
         → (events : History) (b : Begin) → slice_get (Begins past a) (length (Ends past a)) ≡ Some b
         → OneOrNone (EndDue w past t b) events → HappensIn w past t (Phase.ends a) events }
-    ensures no_end { (w : Scenario) (past : History) (t a : ℕ) → a < length w.net.arcs → LegalUpTo w (number (length w.net.arcs) t (1 + a)) past
+    ensures no_end { (w : Scenario) (past : History) (t a : ℕ) → a < length w.net.arcs → LegalUpTo w (moment_of w t (Phase.ends a)) past
         → length (Begins past a) ≤ length (Ends past a) → HappensIn w past t (Phase.ends a) [] }
     ensures arrives { (w : Scenario) (past : History) (t a : ℕ) → a < length w.net.arcs
-        → LegalUpTo w (number (length w.net.arcs) t (1 + length w.net.arcs + a)) past
+        → LegalUpTo w (moment_of w t (Phase.arrivals a)) past
         → (events : History) (e : Ended) → slice_get (Ends past a) (length (Arrivals past a)) ≡ Some e
         → Arriving w past t a e events → HappensIn w past t (Phase.arrivals a) events }
     ensures no_arrival { (w : Scenario) (past : History) (t a : ℕ) → a < length w.net.arcs
-        → LegalUpTo w (number (length w.net.arcs) t (1 + length w.net.arcs + a)) past
+        → LegalUpTo w (moment_of w t (Phase.arrivals a)) past
         → length (Ends past a) ≤ length (Arrivals past a) → HappensIn w past t (Phase.arrivals a) [] }
 {}
 
 /// A history that is legal up to a moment can be cut before each earlier one: its front is legal up to there, and what
-/// follows stands at later moments.
+/// follows stands at later moments. Where none of its arrivals is an alias, none of its front's is.
 pub fn legal_histories_are_cut()
     ensures before { (w : Scenario) (n : ℕ) (h : History) (m : ℕ) → m ≤ n → LegalUpTo w n h
         → (front : History) × (rest : History) × IsCut w m n h front rest }
     ensures around { (w : Scenario) (n : ℕ) (h : History) (m : ℕ) → m < n → LegalUpTo w n h
         → (front : History) × (events : History) × (rest : History) × IsCutAt w m n h front events rest }
+    ensures no_alias { (w : Scenario) (m n : ℕ) (h front rest : History) → LegalBefore w h n → IsCut w m n h front rest → LegalBefore w front m }
 {}
 
 /// Events at later moments don't change what an mPacket carries that began, nor what comes of one that ended.
@@ -186,25 +191,24 @@ pub fn octets_stay()
 
 /// Events after a tick don't change the sizes of mPackets that end by then, nor what an arc has to send at the tick.
 pub fn wants_stay()
-    ensures sizes { (w : Scenario) (h g : History) (k : Kind) (b : Begin) (size : ℕ) → 1 ≤ (arc w b.arc).cost
-        → ((t : ℕ) → t < b.tick + (arc w b.arc).cost * (size + 8) → AllLater t g) → SizeOf w (h ++ g) k b size ↔ SizeOf w h k b size }
-    ensures interrupted { (w : Scenario) (h g : History) (a t : ℕ) (left : Rest) → AllLater t g → Interrupted w (h ++ g) a t left ↔ Interrupted w h a t left }
-    ensures good { (w : Scenario) (n : ℕ) (h g : History) (a t : ℕ) → a < length w.net.arcs → LegalUpTo w n h → AllLater t g
+    ensures sizes { (w : Scenario) (n : ℕ) (h g : History) (k : Kind) (b : Begin) (size : ℕ) → b.arc < length w.net.arcs
+        → AllWithin (length w.net.arcs) (moment_of w (b.tick + (arc w b.arc).cost * (size + 8)) Phase.sets) n g → SizeOf w (h ++ g) k b size ↔ SizeOf w h k b size }
+    ensures interrupted { (w : Scenario) (h g : History) (a t : ℕ) (left : Rest) → AreLater w t g → Interrupted w (h ++ g) a t left ↔ Interrupted w h a t left }
+    ensures good { (w : Scenario) (n : ℕ) (h g : History) (a t : ℕ) → a < length w.net.arcs → LegalUpTo w n h → AreLater w t g
         → Good w (h ++ g) a t ↔ Good w h a t }
-    ensures responds { (w : Scenario) (n : ℕ) (h g : History) (a t : ℕ) → a < length w.net.arcs → LegalUpTo w n h → AllLater t g
+    ensures responds { (w : Scenario) (n : ℕ) (h g : History) (a t : ℕ) → a < length w.net.arcs → LegalUpTo w n h → AreLater w t g
         → RespondOwed w (h ++ g) a t ↔ RespondOwed w h a t }
-    ensures verifies { (w : Scenario) (n : ℕ) (h g : History) (a t : ℕ) → a < length w.net.arcs → (arc w a).mode ≡ mode.Negotiate → LegalUpTo w n h → AllLater t g
+    ensures verifies { (w : Scenario) (n : ℕ) (h g : History) (a t : ℕ) → a < length w.net.arcs → (arc w a).mode ≡ mode.Negotiate → LegalUpTo w n h → AreLater w t g
         → VerifyWanted w (h ++ g) a t ↔ VerifyWanted w h a t }
-    ensures lldp { (w : Scenario) (n : ℕ) (h g : History) (a t : ℕ) → a < length w.net.arcs → LegalUpTo w n h → AllLater t g
+    ensures lldp { (w : Scenario) (n : ℕ) (h g : History) (a t : ℕ) → a < length w.net.arcs → LegalUpTo w n h → AreLater w t g
         → LldpWanted w (h ++ g) a t ↔ LldpWanted w h a t }
-    ensures later { (arcs t m n : ℕ) (g : History) → number arcs t (2 + 3 * arcs) ≤ m → AllWithin arcs m n g → AllLater t g }
 {}
 
 /// Events after a tick don't change what may begin on an arc at the tick.
 pub fn starts_stay()
-    ensures items { (w : Scenario) (n : ℕ) (h g : History) (a t : ℕ) → a < length w.net.arcs → LegalUpTo w n h → AllLater t g
+    ensures items { (w : Scenario) (n : ℕ) (h g : History) (a t : ℕ) → a < length w.net.arcs → LegalUpTo w n h → AreLater w t g
         → (i : Item) (c : Choice) → There w (h ++ g) a t i c ↔ There w h a t i c }
-    ensures rule { (w : Scenario) (n : ℕ) (h g : History) (a t : ℕ) → a < length w.net.arcs → LegalUpTo w n h → AllLater t g
+    ensures rule { (w : Scenario) (n : ℕ) (h g : History) (a t : ℕ) → a < length w.net.arcs → LegalUpTo w n h → AreLater w t g
         → (c : Choice) → StartRule w (h ++ g) a t c ↔ StartRule w h a t c }
 {}
 
@@ -212,9 +216,9 @@ pub fn starts_stay()
 /// whole history; and where nothing did, the arc was occupied or nothing was there.
 pub fn starts_are_read()
     ensures rule { (w : Scenario) (n : ℕ) (h : History) (a t : ℕ) → a < length w.net.arcs → LegalUpTo w n h
-        → number (length w.net.arcs) t (2 + 3 * length w.net.arcs + a) < n → (c : Choice) → HasBegun h a t c ↔ StartRule w h a t c }
+        → moment_of w t (Phase.starts a) < n → (c : Choice) → HasBegun h a t c ↔ StartRule w h a t c }
     ensures idle { (w : Scenario) (n : ℕ) (h : History) (a t : ℕ) → a < length w.net.arcs → LegalUpTo w n h
-        → number (length w.net.arcs) t (2 + 3 * length w.net.arcs + a) < n
+        → moment_of w t (Phase.starts a) < n
         → ((c : Choice) × HasBegun h a t c) ⊎ (((c : Choice) → ¬ HasBegun h a t c) × IsIdle w h a t) }
 {}
 
@@ -222,7 +226,7 @@ pub fn starts_are_read()
 /// history.
 pub fn ends_are_read()
     ensures { (w : Scenario) (n : ℕ) (h : History) (a i : ℕ) (b : Begin) (size : ℕ) → a < length w.net.arcs → LegalUpTo w n h
-        → slice_get (Begins h a) i ≡ Some b → number (length w.net.arcs) (b.tick + (arc w a).cost * (size + 8)) (1 + a) < n
+        → slice_get (Begins h a) i ≡ Some b → moment_of w (b.tick + (arc w a).cost * (size + 8)) (Phase.ends a) < n
         → HasEnded w h a i size ↔ SizeOf w h b.kind b size }
 {}
 
@@ -238,23 +242,23 @@ pub fn arrivals_are_read()
 /// where Active differs from the tick before, by the whole history.
 pub fn expiries_are_read()
     ensures rises { (w : Scenario) (n : ℕ) (h : History) (a t : ℕ) → a < length w.net.arcs → (arc w a).mode ≡ mode.Negotiate → LegalUpTo w n h
-        → number (length w.net.arcs) t (1 + 2 * length w.net.arcs + a) < n → IsTold h (PlainEvent.active t a true) ↔ Rises w h a t }
+        → moment_of w t (Phase.expiries a) < n → IsTold h (PlainEvent.active t a true) ↔ Rises w h a t }
     ensures falls { (w : Scenario) (n : ℕ) (h : History) (a t : ℕ) → a < length w.net.arcs → (arc w a).mode ≡ mode.Negotiate → LegalUpTo w n h
-        → number (length w.net.arcs) t (1 + 2 * length w.net.arcs + a) < n → IsTold h (PlainEvent.active t a false) ↔ Falls w h a t }
+        → moment_of w t (Phase.expiries a) < n → IsTold h (PlainEvent.active t a false) ↔ Falls w h a t }
     ensures quiet { (w : Scenario) (n : ℕ) (h : History) (a t : ℕ) → a < length w.net.arcs → (arc w a).mode ≢ mode.Negotiate → LegalUpTo w n h
-        → number (length w.net.arcs) t (1 + 2 * length w.net.arcs + a) < n → (v : Bool) → ¬ IsTold h (PlainEvent.active t a v) }
+        → moment_of w t (Phase.expiries a) < n → (v : Bool) → ¬ IsTold h (PlainEvent.active t a v) }
 {}
 
 /// In a legal history that is told past the entries of a tick, what came to rings at the tick is what comes by the whole
 /// history: each entered, or was dropped where its ring held its capacity.
 pub fn entries_are_read()
     ensures all { (w : Scenario) (n : ℕ) (h : History) (t : ℕ) → LegalUpTo w n h
-        → number (length w.net.arcs) t (1 + 3 * length w.net.arcs) < n → HasEntries w h t }
+        → moment_of w t Phase.entries < n → HasEntries w h t }
     ensures each { (w : Scenario) (n : ℕ) (h : History) (t : ℕ) → LegalUpTo w n h
-        → number (length w.net.arcs) t (1 + 3 * length w.net.arcs) < n
+        → moment_of w t Phase.entries < n
         → (j : ℕ) (c : Coming) → slice_get (Comings w h t) j ≡ Some c → HasEntry w h t j c }
     ensures only { (w : Scenario) (n : ℕ) (h : History) (t : ℕ) → LegalUpTo w n h
-        → number (length w.net.arcs) t (1 + 3 * length w.net.arcs) < n
+        → moment_of w t Phase.entries < n
         → (e : Entry) → e.tick ≡ t → IsTold h (PlainEvent.enter e) ⊎ IsTold h (PlainEvent.dropped e)
         → (j : ℕ) × (c : Coming) × (slice_get (Comings w h t) j ≡ Some c) × (entry_for w t c ≡ e) }
 {}
@@ -264,10 +268,10 @@ pub fn entries_are_read()
 /// of eight octets and a gap of twelve are over.
 pub fn express_frames_begin()
     ensures begins { (w : Scenario) (n : ℕ) (h : History) (a t : ℕ) → a < length w.net.arcs → LegalUpTo w n h
-        → number (length w.net.arcs) t (2 + 3 * length w.net.arcs + a) < n → ExpressWaits w h a t → ¬ Occupied w h a t
+        → moment_of w t (Phase.starts a) < n → ExpressWaits w h a t → ¬ Occupied w h a t
         → (f : ℕ) × IsFront w h a t w.net.express_from 8 f × HasBegun h a t (whole_frame f kind.Express) }
     ensures busy { (w : Scenario) (n : ℕ) (h : History) (a t : ℕ) → a < length w.net.arcs → LegalUpTo w n h
-        → number (length w.net.arcs) t (2 + 3 * length w.net.arcs + a) < n → Occupied w h a t
+        → moment_of w t (Phase.starts a) < n → Occupied w h a t
         → (i : ℕ) × (b : Begin) × (size : ℕ) × (slice_get (Begins h a) i ≡ Some b) × (b.tick < t) × SizeOf w h b.kind b size
         × (t < b.tick + (arc w a).cost * (size + 8) + 12 * (arc w a).cost) }
 {}
@@ -287,20 +291,12 @@ pub fn starts_are_decided()
         → ((c : Choice) × StartRule w h a t c) ⊎ ((c : Choice) → ¬ StartRule w h a t c) }
 {}
 
-/// A legal history goes on with the next moment, or the next arrival is an alias. It is decided of each mPacket that ended
-/// whether it arrives as one.
+/// A legal history goes on with the next moment, or that is of an arrival which is an alias. It is decided of each mPacket that
+/// ended whether it arrives as one.
 pub fn histories_go_on()
     ensures next { (w : Scenario) (n : ℕ) (h : History) → LegalUpTo w n h
-        → ((es : List PlainEvent) × Happens w h (moment_at (length w.net.arcs) n) es) ⊎ ((a i : ℕ) × AliasNext w h n a i) }
-    ensures alias { (w : Scenario) (n : ℕ) (h : History) (a i : ℕ) (b : Begin) (e : Ended) → a < length w.net.arcs → LegalUpTo w n h
-        → slice_get (Begins h a) i ≡ Some b → slice_get (Ends h a) i ≡ Some e → Alias w h a i ⊎ ¬ Alias w h a i }
-{}
-
-/// Each network, streams and script has a legal history or a first alias before its last moment, and never both; so it is up
-/// to each moment.
-pub fn legal_or_alias()
-    ensures before { (w : Scenario) (n : ℕ) → ((h : History) × LegalBefore w h n) ⊎ ((m : ℕ) × (h : History) × (a : ℕ) × (i : ℕ) × (m < n) × FirstAliasAt w h m a i) }
-    ensures whole { (w : Scenario) → ((h : History) × Legal w h) ⊎ ((m : ℕ) × (h : History) × (a : ℕ) × (i : ℕ) × (m < last_moment w) × FirstAliasAt w h m a i) }
-    ensures never_both { (w : Scenario) (h g : History) (m a i : ℕ) → Legal w h → m < last_moment w → ¬ FirstAliasAt w g m a i }
-    ensures is_first { (w : Scenario) (h : History) (m a i : ℕ) → FirstAliasAt w h m a i → FirstAlias w h a i }
+        → ((es : List PlainEvent) × Happens w h (moment_at (length w.net.arcs) n) es)
+        ⊎ ((t a i : ℕ) × (a < length w.net.arcs) × (n ≡ moment_of w t (Phase.arrivals a)) × ArrivesAsAlias w h t a i) }
+    ensures alias { (w : Scenario) (h : History) (a i : ℕ) (b : Begin) (e : Ended) → slice_get (Begins h a) i ≡ Some b → slice_get (Ends h a) i ≡ Some e
+        → Alias w h a i ⊎ ¬ Alias w h a i }
 {}

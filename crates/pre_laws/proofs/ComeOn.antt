@@ -126,20 +126,3 @@ module _ (w : Scenario) (n : ℕ) (h : History) (legal : LegalUpTo w n h) where
       let k = in_flat (relays w h t) (below (length w.net.arcs)) p.0 r.0 a c p.1 r.1 in
       let here = at_front (flat_map (relays w h t) (below (length w.net.arcs))) (sends_from w t 0 w.script.sends) k.0 c k.1 in
       entry_told w h t k.0 c (entries_placed w n h t legal told k.0 c here)
-
--- ---- a front of a history with no alias has none
-
-pub no_alias_before : (w : Scenario) (m n : ℕ) (h front rest : History) → LegalBefore w h n → IsCut w m n h front rest → LegalBefore w front m
-no_alias_before w m n h front rest legal c = (
-  c.legal,
-  λ a. All-from_recursion (λ (x : Arrive). ¬ Alias w front a x.ord) (Arrivals front a) (every_placed (λ (x : Arrive). ¬ Alias w front a x.ord) (Arrivals front a) (λ i x at alias.
-      let lt : a < length w.net.arcs = every_at (λ (x : Arrive). a < length w.net.arcs) (Arrivals front a) i x
-      (every_selected (arrive_on a) (IsBefore (length w.net.arcs) m) (λ x. a < length w.net.arcs) (arrives_within (length w.net.arcs) m a) front (placed w m front c.legal)) at in
-      let o = (steady w m front a lt c.legal).ordered in
-      let ord : x.ord ≡ i = o.arrival_places i x at in
-      let here : slice_get (Arrivals h a) i ≡ Some x = ap (λ l. slice_get l i) (ap (λ l. Arrivals l a) c.joined ∙ filter_map-append (arrive_on a) front rest) ∙ at_front (Arrivals front a) (Arrivals rest a) i x at in
-      let none = every_at (λ (x : Arrive). ¬ Alias w h a x.ord) (Arrivals h a) i x (every_of_all (λ (x : Arrive). ¬ Alias w h a x.ord) (Arrivals h a) (legal.1 a)) here in
-      let ended : x.ord < length (Ends front a) = omega (arith, ord, within (Arrivals front a) i x at, o.arrivals_ended) in
-      let whole : LegalUpTo w n (front ++ rest) = subst (LegalUpTo w n) c.joined legal.0 in
-      none (subst (λ (l : History). Alias w l a x.ord) (sym c.joined) ((alias_stays w m n n front rest c.legal c.later whole a lt x.ord ended).1 alias)))),
-)

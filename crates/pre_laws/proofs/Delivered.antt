@@ -10,12 +10,12 @@ use Rattle.pre_history.specs.declared.events.Outcome.TheVariants as outcome
 use Rattle.pre_history.specs.Scenario.{Scenario, arc, send, FrameOf}
 use Rattle.pre_history.specs.Moments.{Phase, moments, phase_at}
 use Rattle.pre_history.specs.History.{PlainEvent, History, Begin, Ended, Arrive, Delivery}
-use Rattle.pre_history.specs.Selected.{begin_on, arrive_on, delivery_of, frame_in}
+use Rattle.pre_history.specs.Selected.{begin_on, arrive_on, delivery_of, frame_in, is_frame_result}
 use Rattle.pre_history.specs.Queries.{Begins, Ends, Arrivals, Deliveries}
 use Rattle.pre_history.specs.Octets.{Air}
 use Rattle.pre_history.specs.Received.{Result}
 use Rattle.pre_history.specs.Comings.{hops, frame_at, next_arc}
-use Rattle.pre_history.specs.Rules.{HappensIn, WithDelivery, delivered, arrival}
+use Rattle.pre_history.specs.Rules.{HappensIn, EventsOf, WithDelivery, delivered, arrival}
 use Rattle.pre_history.specs.Placed.{HasPlace, number, IsAt, AllAt}
 use Rattle.pre_history.specs.Legal.{LegalUpTo, LegalBefore, Legal, CountLines, count_line, closing, last_moment}
 use Rattle.pre_history.specs.Deliveries.{DeliversOnce}
@@ -51,17 +51,15 @@ arrival_later past es a i x at = ap (λ l. slice_get l i) (filter_map-append (ar
 
 -- the events of an arrival deliver once at most
 one_delivery : (w : Scenario) (past : History) (t a i : ℕ) (r : Outcome) (es : List PlainEvent) → WithDelivery w past t a i r es → (Deliveries es ≡ []) ⊎ ((d : Delivery) × (Deliveries es ≡ d ∷ []))
-one_delivery w past t a i outcome.Frame es (f, octets, frame, gives, is) = go (next_arc w a f) is
+one_delivery w past t a i r es = by_test (is_frame_result r)
   where
-    go : (next : Option ℕ) → es ≡ arrival t a i outcome.Frame ∷ delivered t (arc w a).to.0 f octets next → (Deliveries es ≡ []) ⊎ ((d : Delivery) × (Deliveries es ≡ d ∷ []))
-    go None is = inr (record { tick = t; node = (arc w a).to.0; frame = f; octets = octets }, ap Deliveries is)
-    go (Some b) is = inl (ap Deliveries is)
-one_delivery w past t a i outcome.Lost es is = inl (ap Deliveries is)
-one_delivery w past t a i outcome.Lldp es is = inl (ap Deliveries is)
-one_delivery w past t a i outcome.Part es is = inl (ap Deliveries is)
-one_delivery w past t a i outcome.Verify es is = inl (ap Deliveries is)
-one_delivery w past t a i outcome.Respond es is = inl (ap Deliveries is)
-one_delivery w past t a i outcome.Nothing es is = inl (ap Deliveries is)
+    go : (f : ℕ) (octets : List ℕ) (next : Option ℕ) → es ≡ arrival t a i r ∷ delivered t (arc w a).to.0 f octets next → (Deliveries es ≡ []) ⊎ ((d : Delivery) × (Deliveries es ≡ d ∷ []))
+    go f octets None is = inr (record { tick = t; node = (arc w a).to.0; frame = f; octets = octets }, ap Deliveries is)
+    go f octets (Some b) is = inl (ap Deliveries is)
+
+    by_test : (is_user : Bool) → EventsOf w past t is_user a i r es → (Deliveries es ≡ []) ⊎ ((d : Delivery) × (Deliveries es ≡ d ∷ []))
+    by_test true (f, octets, frame, gives, is) = go f octets (next_arc w a f) is
+    by_test false is = inl (ap Deliveries is)
 
 no_delivery : (arcs t k : ℕ) → k < moments arcs → ((a : ℕ) → a < arcs → k ≢ 1 + arcs + a) → (e : PlainEvent) → IsAt arcs (number arcs t k) e → delivery_of e ≡ None
 no_delivery arcs t k lt other (PlainEvent.deliver d) (a, a_lt, at) = absurd (other a a_lt (same_place arcs t d.tick k (1 + arcs + a) lt (omega (arith, a_lt)) at))

@@ -12,9 +12,10 @@ use Rattle.pre_history.specs.Starts.{Item, Choice, There}
 use Rattle.pre_history.specs.Legal.{LegalUpTo}
 use Rattle.pre_history.proofs.Lists.{one_at}
 use Rattle.pre_laws.specs.Routed.{IsRouted}
-use Rattle.pre_laws.proofs.Begun.{choice_of, by_item, rises}
+use Rattle.pre_laws.proofs.Begun.{choice_of, by_item}
 use Rattle.pre_laws.proofs.Routed.{at_front_of, start_fragment}
 use Rattle.pre_laws.proofs.RunSteps.{Joins, fragment_at}
+use Rattle.pre_history.proofs.Rising.{rises}
 
 order : (m n : ℕ) → (m ≡ n) ⊎ (m < n) ⊎ (n < m)
 order m n = grind arith

@@ -34,9 +34,7 @@ frame_given r Given.respond is by = absurd (cc (sym is ∙ by))
 
 module _ (w : Scenario) (n : ℕ) (h : History) (legal : LegalBefore w h n) (a : ℕ) (a_lt : a < length w.net.arcs) (i : ℕ) (x : Arrive) (at : slice_get (Arrivals h a) i ≡ Some x) (is : x.result ≡ outcome.Frame) where
   not_alias : Alias w h a i → ⊥
-  not_alias alias =
-      let ord : x.ord ≡ i = (steady w n h a a_lt legal.0).ordered.arrival_places i x at in
-      every_at (λ (x : Arrive). ¬ Alias w h a x.ord) (Arrivals h a) i x (every_of_all (λ (x : Arrive). ¬ Alias w h a x.ord) (Arrivals h a) (legal.1 a)) at (subst (Alias w h a) (sym ord) alias)
+  not_alias alias = legal.1 a i (within (Arrivals h a) i x at) alias
 
   given : (octets : List ℕ) × Gives (Air w h a) i (Given.frame octets) × (is_lldp_frame octets ≡ false)
   given = go (results_read w n h a a_lt legal.0 i x at)
@@ -47,9 +45,9 @@ module _ (w : Scenario) (n : ℕ) (h : History) (legal : LegalBefore w h n) (a :
       go (inr (inr (kept, none, r))) = absurd (cc (sym is ∙ r))
 
   pub arrives_whole : (f : ℕ) × ArrivesWhole w h a i f
-  arrives_whole = elim (last_decided w n h legal.0 a a_lt i b.0 e.0 b.1 e.1 given.0) [
+  arrives_whole = elim (last_decided w h a i b.0 e.0 b.1 e.1 given.0) [
     | inr other ↦ absurd (not_alias (inr (inr (given.0, given.1, other))))
-    | inl last' ↦ by ((last_is w n h legal.0 a a_lt i b.0 e.0 b.1 e.1 given.0).0 last')
+    | inl last' ↦ by ((last_is w h a i b.0 e.0 b.1 e.1 given.0).0 last')
   ]
     where
       e : (e : Ended) × (slice_get (Ends h a) i ≡ Some e)

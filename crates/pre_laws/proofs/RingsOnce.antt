@@ -24,10 +24,11 @@ use Rattle.pre_history.proofs.Pairs.{all_pairs, pairs_selected}
 use Rattle.pre_history.proofs.Turns.{tick_lt}
 use Rattle.pre_history.proofs.InOrder.{steady}
 use Rattle.pre_laws.specs.Routed.{IsRouted, IsOnRoute, IsEntry, HasCome}
-use Rattle.pre_laws.proofs.Begun.{choice_of, by_item, rises}
+use Rattle.pre_laws.proofs.Begun.{choice_of, by_item}
 use Rattle.pre_laws.proofs.Routed.{at_front_of, comings_right, all_right}
 use Rattle.pre_laws.proofs.FirstOctets.{Since, since, goes_on, same_frame}
 use Rattle.pre_laws.proofs.Once.{Comes, AreApart, coming_to, came, told_before, entries_once, one_tick, comings_are, comings_apart}
+use Rattle.pre_history.proofs.Rising.{rises}
 
 abbrev pub OtherFrame : RingEntry → RingEntry → Type 0
 OtherFrame r s = r.frame ≢ s.frame

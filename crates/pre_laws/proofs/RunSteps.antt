@@ -173,7 +173,7 @@ module _ (w : Scenario) (routed : IsRouted w) (n : ℕ) (h : History) (legal : L
       same = here ∙ r.parts
 
       over_by : P (packet h a b)
-      over_by = every_at P (r.before ++ packet h a b ∷ []) (length r.before) (packet h a b) (subst (Every P) same (every_of_all P (first ∷ more) ended)) (at_last r.before (packet h a b))
+      over_by = every_at P (r.before ++ packet h a b ∷ []) (length r.before) (packet h a b) (subst (Every P) same ended) (at_last r.before (packet h a b))
 
       first_is : first ≡ packet h a r.first
       first_is = cc here

@@ -22,7 +22,7 @@ use Rattle.pre_history.proofs.Lists.{one_at, filter_nil, every_placed}
 use Rattle.pre_history.proofs.Free.{packet_at, first_numbered}
 use Rattle.pre_history.proofs.LaterEnds.{packet_back}
 use Rattle.pre_history.proofs.InOrder.{steady}
-use Rattle.pre_laws.proofs.Begun.{rises}
+use Rattle.pre_history.proofs.Rising.{rises}
 
 -- ---- lists
 

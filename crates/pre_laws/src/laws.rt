@@ -1,4 +1,4 @@
-ghost use Rattle.std.specs.Prelude.{◌<◌, ◌≤◌, ◌+◌, ◌*◌, ◌≡◌, ◌≢◌, ◌⊎◌, ℕ, true, length, slice_get, Some, AllPairs};
+ghost use Rattle.std.specs.Prelude.{◌<◌, ◌≤◌, ◌+◌, ◌≡◌, ◌≢◌, ◌⊎◌, ℕ, true, length, slice_get, Some, AllPairs};
 ghost use Rattle.pre_laws.specs.Routed.{ArrivesWhole, ComesFirst, ComesNext, HasCome, IsEntry, IsRouted, IsOnRoute};
 ghost use Rattle.pre_base.specs.declared.numbers.FrameNo.{FrameNo};
 ghost use Rattle.pre_history.specs.History.{Arrive, Begin, Ended, Entry, History};
@@ -7,11 +7,11 @@ ghost use Rattle.pre_mpacket.specs.Arrivals.{Given, Gives, is_continue, is_fragm
 ghost use Rattle.pre_laws.specs.Parts.{GoesOn, IsKept, IsLeft, WentInParts};
 ghost use Rattle.pre_history.specs.Deliveries.{ComeOnce, DeliversOnce};
 ghost use Rattle.pre_history.specs.Comings.{Comings, first_arc, frame_at, next_arc};
-ghost use Rattle.pre_history.specs.Placed.{number};
-ghost use Rattle.pre_history.specs.Cuts.{IsCut};
+ghost use Rattle.pre_history.specs.Placed.{moment_of};
 ghost use Rattle.pre_history.specs.Octets.{Air};
 ghost use Rattle.pre_history.specs.Legal.{Spared, Legal, LegalBefore, LegalUpTo};
 ghost use Rattle.pre_history.specs.Scenario.{FrameOf, Scenario, arc, latency, row, send};
+ghost use Rattle.pre_history.specs.Moments.{Phase};
 ghost use Rattle.pre_history.specs.declared.events.What.TheVariants as what;
 ghost use Rattle.pre_history.specs.declared.events.Outcome.TheVariants as outcome;
 ghost use Rattle.pre_mpacket.specs.declared.packets.Kind.TheVariants as kind;
@@ -46,7 +46,7 @@ pub fn frames_take_arcs_once()
     ensures rings { (w : Scenario) → IsRouted w → (n : ℕ) (h : History) → LegalBefore w h n → (a p : ℕ) → AllPairs (λ d e. d.frame ≢ e.frame) (Entries h a p) }
     ensures before { (w : Scenario) → IsRouted w → (n : ℕ) (h : History) → LegalBefore w h n → (a i : ℕ) (b : Begin) (f : FrameNo) → a < length w.net.arcs
         → slice_get (Begins h a) i ≡ Some b → b.what ≡ what.Frame f → HasCome h a b.tick f.0 }
-    ensures comings { (w : Scenario) → IsRouted w → (t : ℕ) (past : History) → LegalBefore w past (number (length w.net.arcs) t (1 + 3 * length w.net.arcs))
+    ensures comings { (w : Scenario) → IsRouted w → (t : ℕ) (past : History) → LegalBefore w past (moment_of w t Phase.entries)
         → ComeOnce w past (Comings w past t) }
 {}
 
@@ -99,15 +99,10 @@ pub fn kept_fragments_give_the_frame()
 /// A frame that is sent comes to the first arc of its route then, and one that arrived to the next arc when the latency is over.
 pub fn frames_come_on()
     ensures sent { (w : Scenario) (n : ℕ) (h : History) → LegalUpTo w n h → (f : ℕ) → f < length w.script.sends
-        → number (length w.net.arcs) (send w f).send.tick.0 (1 + 3 * length w.net.arcs) < n
+        → moment_of w (send w f).send.tick.0 Phase.entries < n
         → (i : ℕ) × IsEntry h i (record { tick = (send w f).send.tick.0; arc = first_arc w f; prio = (row w f).prio; frame = f }) }
     ensures relayed { (w : Scenario) (n : ℕ) (h : History) → LegalUpTo w n h → (a i f b : ℕ) (x : Arrive) → a < length w.net.arcs
         → slice_get (Arrivals h a) i ≡ Some x → x.result ≡ outcome.Frame → frame_at h a i ≡ Some f → next_arc w a f ≡ Some b
-        → number (length w.net.arcs) (x.tick + latency w a) (1 + 3 * length w.net.arcs) < n
+        → moment_of w (x.tick + latency w a) Phase.entries < n
         → (j : ℕ) × IsEntry h j (record { tick = x.tick + latency w a; arc = b; prio = (row w f).prio; frame = f }) }
-{}
-
-/// A front of a legal history with no alias has none.
-pub fn fronts_have_no_alias()
-    ensures { (w : Scenario) (m n : ℕ) (h front rest : History) → LegalBefore w h n → IsCut w m n h front rest → LegalBefore w front m }
 {}

@@ -10,7 +10,7 @@ use Rattle.pre_history.specs.History.{PlainEvent, History}
 use Rattle.pre_sim.specs.declared.halts.Halt.{Halt}
 use Rattle.pre_sim.specs.declared.halts.Halt.TheVariants.{Stopped, Memory}
 use Rattle.pre_sim.specs.Telling.{TellsAll}
-use Rattle.pre_history.specs.Written.{AreWritten-append}
+use Rattle.pre_history.proofs.WrittenEvents.{AreWritten-append}
 use Rattle.pre_sim.specs.Told.{tells_nothing, tells_then}
 use Rattle.pre_sim.specs.Parts.{TellsOne, TellsPart, count_of}
 

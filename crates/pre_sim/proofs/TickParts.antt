@@ -201,7 +201,7 @@ module _ (w : Scenario) (t k due t' k' due' : ℕ) (old mid : Progress) (es fs :
 -- ---- the end
 
 module _ (w : Scenario) (t : ℕ) (old : Progress)
-    (no_alias : (n : ℕ) (h : History) → LegalUpTo w n h → (a : ℕ) → All (λ x. ¬ Alias w h a x.ord) (Arrivals h a))
+    (no_alias : (n : ℕ) (h : History) → LegalUpTo w n h → (a i : ℕ) → i < length (Arrivals h a) → ¬ Alias w h a i)
     (no_counts : (n : ℕ) (h : History) → LegalUpTo w n h → CountLines w h (length w.net.arcs) []) where
   -- a front of a tick
   pub front_of_tick : (es : History) → TickFront w t old es → AdvanceFront w t old es

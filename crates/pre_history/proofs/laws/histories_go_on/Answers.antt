@@ -6,4 +6,4 @@ pub returns-clause-next : goal.returns-clause-next
 returns-clause-next c = λ w n h legal. progress w n h legal
 
 pub returns-clause-alias : goal.returns-clause-alias
-returns-clause-alias c = λ w n h a i b e a_lt legal at_b at_e. alias_decided w n h legal a a_lt i b e at_b at_e
+returns-clause-alias c = alias_decided
