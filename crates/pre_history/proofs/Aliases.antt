@@ -19,8 +19,8 @@ use Rattle.pre_history.proofs.LaterEnds.{packet_back}
 use Rattle.pre_history.proofs.InOrder.{steady}
 use Rattle.pre_history.specs.Placed.{AllWithin}
 use Rattle.pre_history.proofs.AirStays.{gives_stays, whole_stays}
-use Rattle.pre_history.proofs.Decisions.{IsDecided, negated, alike, equal, equal_lists}
-use Rattle.pre_history.proofs.GivenDecided.{gives_decided, is_verify_kind, is_respond_kind}
+use Rattle.pre_mpacket.proofs.Decisions.{IsDecided, negated, alike, equal, equal_lists}
+use Rattle.pre_mpacket.proofs.GivenDecided.{gives_decided, is_verify_kind, is_respond_kind}
 use Rattle.pre_history.proofs.Known.{one_given}
 
 -- the frame's last octet is among those of the mPacket with these events

@@ -1,6 +1,6 @@
 -- What a run tests of a history is decided.
 use Rattle.std.proofs.Common.{ℕ, zero, suc, ◌≡◌, ◌≢◌, ◌⊎◌, ◌+◌, ◌-◌, ◌*◌, ◌<◌, ◌≤◌, List, [], ◌∷◌, refl, sym, inl, inr, arith, subst, Option, Some, None}
-use Rattle.std.specs.Prelude.{MatchOption, ⊤, slice_get}
+use Rattle.std.specs.Prelude.{MatchOption, ⊤, slice_get, Any}
 use Rattle.std.proofs.lemmas.Bool.{cases_lt}
 use Rattle.pre_mpacket.specs.Pieces.{IsBoundary, CutRule, least_fragment}
 use Rattle.pre_mpacket.specs.CutSizes.{cut_some}
@@ -9,6 +9,7 @@ use Rattle.pre_history.specs.History.{History, Begin, Ended}
 use Rattle.pre_history.specs.Queries.{Packets, Waiting, IsUnderWay, Occupied}
 use Rattle.pre_history.specs.Starts.{ExpressWaits, begun}
 use Rattle.pre_history.proofs.Lists.{any_at, found_at}
+use Rattle.pre_mpacket.proofs.Decisions.{IsDecided}
 
 not_later : {X : Type 0} (P : X → Type 0) (y : X) (ys : List X) → ¬ P y → ((i : ℕ) (x : X) → slice_get ys i ≡ Some x → ¬ P x) → (i : ℕ) (x : X) → slice_get (y ∷ ys) i ≡ Some x → ¬ P x
 not_later P y ys first none zero x at p = first (subst P (sym (cc at)) p)
@@ -81,3 +82,10 @@ cuts_decided w h b d = elim (cases_lt d (least_fragment (begun w h b).add_frag))
 
 pub size_found : (w : Scenario) (h : History) (b : Begin) → (size : ℕ) × CutRule (ExpressWaits w h b.arc) (begun w h b) size
 size_found w h b = cut_some (ExpressWaits w h b.arc) (λ t. express_decided w h b.arc t) (begun w h b)
+
+-- whether some element has it
+pub some_element : {X : Type 0} (P : X → Type 0) → ((x : X) → IsDecided (P x)) → (xs : List X) → IsDecided (Any P xs)
+some_element P decided xs = elim (any_decided P decided xs) [
+  | inl o ↦ inl (any_at P xs o.0 o.1 o.2 o.3)
+  | inr none ↦ inr (λ x. none x.0 x.1 (found_at xs x.0 x.1 x.2 x.3) x.4)
+]

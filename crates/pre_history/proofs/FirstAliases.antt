@@ -29,7 +29,7 @@ use Rattle.std.proofs.Common.{append_assoc}
 use Rattle.pre_history.proofs.Lists.{at_front, found_at}
 use Rattle.pre_history.specs.Selected.{ended_on}
 use Rattle.pre_history.proofs.Around.{arrive_at}
-use Rattle.pre_history.proofs.Decisions.{IsDecided, both_then, equal}
+use Rattle.pre_mpacket.proofs.Decisions.{IsDecided, both_then, equal}
 use Rattle.pre_history.proofs.Aliases.{alias_decided, alias_stays}
 use Rattle.pre_history.proofs.Progress.{progress}
 use Rattle.pre_history.specs.Placed.{HasPlace}

@@ -57,14 +57,11 @@ pub mod EndsRead
 pub mod ArrivalsRead
 pub mod ExpiriesRead
 pub mod EntriesRead
-pub mod Decisions
-pub mod GivenDecided
 pub mod LinksDecided
 pub mod StartsDecided
 pub mod Aliases
 pub mod Progress
 pub mod FirstAliases
-pub mod CountsDecided
 pub mod Totals
 pub mod DeliveriesRead
 pub mod Known

@@ -29,9 +29,10 @@ use Rattle.pre_history.proofs.InOrder.{steady}
 use Rattle.pre_history.proofs.Unread.{reverse_within}
 use Rattle.pre_history.proofs.LinkTests.{active_by_test, wanted_by_test}
 use Rattle.pre_history.proofs.ArrivalsRead.{results_read}
-use Rattle.pre_history.proofs.Decisions.{IsDecided, both, one_of, negated, by_test, tested, truth, equal, less, some_element, some_below, each_between}
-use Rattle.pre_history.proofs.GivenDecided.{is_respond_kind}
+use Rattle.pre_mpacket.proofs.Decisions.{IsDecided, both, one_of, negated, by_test, tested, truth, equal, less, some_below, each_between}
+use Rattle.pre_mpacket.proofs.GivenDecided.{is_respond_kind}
 use Rattle.pre_history.proofs.Known.{one_given, verified_computed, wanted_computed}
+use Rattle.pre_history.proofs.Decided.{some_element}
 
 -- ---- plain values
 

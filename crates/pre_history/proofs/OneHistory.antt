@@ -12,6 +12,7 @@ use Rattle.pre_history.proofs.Deciding.{IsOne, one_or_none, each}
 use Rattle.pre_history.proofs.Sizes.{end_one}
 use Rattle.pre_history.proofs.Starts.{start_one, expiry_one}
 use Rattle.pre_history.proofs.Arrived.{OneGiven, arriving_one}
+use Rattle.pre_mpacket.proofs.Counted.{counters_one}
 
 -- the rules decide the events of each phase
 pub happens_one : OneGiven → (w : Scenario) (past : History) (t : ℕ) (p : Phase) → IsOne (HappensIn w past t p)
@@ -34,24 +35,11 @@ legal_one one w (suc n) g h (past, es, is, legal, happens) (past', es', is', leg
     let same : es ≡ es' = happens_one one w past' m.tick m.phase es es' here happens' in
     cc (is, is', before, same)
 
--- a count of what holds is one number
-holds_one : (P : ℕ → Type 0) (n : ℕ) → IsOne (HoldsOf P n)
-holds_one P zero i j p q = p ∙ sym q
-holds_one P (suc n) i j (inl (yes', (k, is, p))) (inl (yes'', (l, is', q))) = is ∙ (ap suc (holds_one P n k l p q) ∙ sym is')
-holds_one P (suc n) i j (inl (yes', (k, is, p))) (inr (no', q)) = absurd (no' yes')
-holds_one P (suc n) i j (inr (no', p)) (inl (yes', (l, is, q))) = absurd (no' yes')
-holds_one P (suc n) i j (inr (no', p)) (inr (no'', q)) = holds_one P n i j p q
-
 counts_one : (w : Scenario) (h : History) (a : ℕ) → IsOne (CountsOf w h a)
 counts_one w h a c d (p, p_tx) (q, q_tx) =
-    let A = Air w h a in
-    let n = length (Arrivals h a) in
-    let err = holds_one (IsAssError A) n c.err d.err p.ass_errors q.ass_errors in
-    let smd = holds_one (IsSmdError A) n c.smd d.smd p.smd_errors q.smd_errors in
-    let ok = holds_one (IsAssOk A) n c.ok d.ok p.ass_oks q.ass_oks in
-    let rx = holds_one (IsFragRx A) n c.rx d.rx p.frag_rxs q.frag_rxs in
+    let same = counters_one (Air w h a) (length (Arrivals h a)) c.err c.smd c.ok c.rx d.err d.smd d.ok d.rx p q in
     let tx = p_tx ∙ sym q_tx in
-    λ i. record { err = err i; smd = smd i; ok = ok i; rx = rx i; tx = tx i }
+    λ i. record { err = same.0 i; smd = same.1 i; ok = same.2 i; rx = same.3 i; tx = tx i }
 
 lines_one : (w : Scenario) (h : History) (n : ℕ) → IsOne (CountLines w h n)
 lines_one w h zero es fs p q = p ∙ sym q

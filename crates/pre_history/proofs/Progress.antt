@@ -24,8 +24,8 @@ use Rattle.pre_history.proofs.Sizes.{size_one}
 use Rattle.pre_history.proofs.Decided.{size_found}
 use Rattle.pre_history.proofs.Placing.{place_at, numbered}
 use Rattle.pre_history.proofs.InOrder.{steady}
-use Rattle.pre_history.proofs.Decisions.{tested, equal}
-use Rattle.pre_history.proofs.GivenDecided.{gives_decided, lost_decided}
+use Rattle.pre_mpacket.proofs.Decisions.{tested, equal}
+use Rattle.pre_mpacket.proofs.GivenDecided.{gives_decided, lost_decided}
 use Rattle.pre_history.proofs.LinksDecided.{is_negotiate, active_decided, active_before_decided}
 use Rattle.pre_history.proofs.StartsDecided.{start_found}
 use Rattle.pre_history.proofs.Aliases.{last_is}

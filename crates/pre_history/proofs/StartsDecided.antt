@@ -17,7 +17,7 @@ use Rattle.pre_history.specs.Starts.{Item, place, Choice, whole_frame, rest_begi
 use Rattle.pre_history.specs.Legal.{LegalUpTo}
 use Rattle.pre_history.proofs.Starts.{place_one}
 use Rattle.pre_history.proofs.Decided.{occupied_decided}
-use Rattle.pre_history.proofs.Decisions.{IsDecided, both, one_of, negated, equal, at_most, equal_lists}
+use Rattle.pre_mpacket.proofs.Decisions.{IsDecided, both, one_of, negated, equal, at_most, equal_lists}
 use Rattle.pre_history.proofs.Zips.{every_of_all}
 use Rattle.pre_history.proofs.RunsStay.{EndedBy}
 use Rattle.pre_history.proofs.LinksDecided.{is_negotiate, active_decided, owed_decided, verify_wanted_decided, lldp_wanted_decided}

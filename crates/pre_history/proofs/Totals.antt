@@ -1,19 +1,21 @@
 -- There is one legal history, or one first alias.
-use Rattle.std.proofs.Common.{ℕ, suc, ◌≡◌, ◌⊎◌, ◌+◌, ◌*◌, ◌<◌, ◌≤◌, [], ◌∷◌, ◌++◌, length, refl, sym, ◌∙◌, ap, inl, inr, arith, subst, Some}
-use Rattle.std.specs.Prelude.{slice_get}
+use Rattle.std.proofs.Common.{ℕ, suc, ◌≡◌, ◌⊎◌, ◌+◌, ◌*◌, ◌<◌, ◌≤◌, [], ◌∷◌, ◌++◌, length, refl, sym, ◌∙◌, ap, inl, inr, arith, subst, Some, zero, List}
+use Rattle.std.specs.Prelude.{slice_get, count_by}
 use Rattle.std.proofs.lemmas.Bool.{cases_lt}
 use Rattle.std.proofs.Math.Nat.{mul-le-mul_right}
 use Rattle.pre_history.specs.Scenario.{Scenario, arc}
 use Rattle.pre_history.specs.Moments.{Phase, Moment, moments}
-use Rattle.pre_history.specs.History.{PlainEvent, History, Ended}
-use Rattle.pre_history.specs.Queries.{Ends}
+use Rattle.pre_history.specs.History.{PlainEvent, History, Ended, Counts}
+use Rattle.pre_history.specs.Queries.{Ends, Begins, Arrivals}
 use Rattle.pre_history.specs.Placed.{moment_of}
-use Rattle.pre_history.specs.Legal.{LegalUpTo, LegalBefore, Legal, ArrivesAsAlias, FirstAliasAt, last_moment, closing}
+use Rattle.pre_history.specs.Legal.{LegalUpTo, LegalBefore, Legal, ArrivesAsAlias, FirstAliasAt, last_moment, closing, CountLines, count_line}
 use Rattle.pre_history.proofs.OneHistory.{legal_one}
 use Rattle.pre_history.proofs.FirstAliases.{AliasNext, arrivals_at, goes_on, not_both}
-use Rattle.pre_history.proofs.CountsDecided.{lines_some}
+use Rattle.pre_mpacket.proofs.CountersFound.{counters_some}
 use Rattle.pre_history.proofs.Known.{one_given}
 use Rattle.pre_history.proofs.Rising.{ends_rise}
+use Rattle.pre_history.specs.Octets.{Air}
+use Rattle.pre_mpacket.specs.Arrivals.{is_continue}
 
 -- moments of a tick up to `until` are those before the last moment
 tick_up_to : (size t u k : ℕ) → t * size + k < (u + 1) * size → t ≤ u
@@ -32,6 +34,15 @@ before_last size t u k lt le =
 first_alias : (w : Scenario) (m : ℕ) (h : History) → m < last_moment w → LegalBefore w h m → AliasNext w h m → (t a i : ℕ) × FirstAliasAt w h t a i
 first_alias w m h lt before (t, a, i, a_lt, is, alias) =
     (t, a, i, (tick_up_to (moments (length w.net.arcs)) t w.script.until.0 (1 + length w.net.arcs + a) (subst (λ k. k < last_moment w) is lt), a_lt, subst (LegalBefore w h) is before, alias))
+
+-- the `count` lines of a history
+lines_some : (w : Scenario) (h : History) (n : ℕ) → (es : List PlainEvent) × CountLines w h n es
+lines_some w h zero = ([], refl)
+lines_some w h (suc a) =
+    let before = lines_some w h a in
+    let o = counters_some (Air w h a) (length (Arrivals h a)) in
+    let c : Counts = record { err = o.0; smd = o.1; ok = o.2; rx = o.3; tx = count_by (λ b. is_continue b.kind) (Begins h a) } in
+    (before.0 ++ count_line a c, (before.0, c, before.1, (o.4, refl), refl))
 
 pub some_history : (w : Scenario) → ((h : History) × Legal w h) ⊎ ((h : History) × (t a i : ℕ) × FirstAliasAt w h t a i)
 some_history w = elim (goes_on w (last_moment w)) [

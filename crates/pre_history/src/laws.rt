@@ -1,10 +1,10 @@
-ghost use Rattle.std.specs.Prelude.{◌↔◌, ◌≡◌, ◌≢◌, ◌⊎◌, ℕ, ◌+◌, ◌*◌, ◌<◌, ◌++◌, [], length, ◌≤◌, slice_get, AllPairs, Some, List, Bool, false, Option, true};
+ghost use Rattle.std.specs.Prelude.{◌↔◌, ◌≡◌, ◌≢◌, ◌⊎◌, ℕ, ◌+◌, ◌*◌, ◌<◌, ◌++◌, [], length, ◌≤◌, slice_get, AllPairs, Some, List, Bool, false, true};
 ghost use Rattle.std.specs.Bool.{Decides};
 ghost use Rattle.pre_base.specs.declared.numbers.FrameNo.{FrameNo};
 ghost use Rattle.pre_lldp.specs.Ages.{CountsEnabled, Heard};
 ghost use Rattle.pre_lldp.specs.LinkState.{is_verified, is_verify_wanted};
 ghost use Rattle.pre_lldp.specs.LldpLayout.{is_lldp_frame};
-ghost use Rattle.pre_mpacket.specs.Arrivals.{Given, Gives, GivesNothing};
+ghost use Rattle.pre_mpacket.specs.Arrivals.{Given, Gives};
 ghost use Rattle.pre_mpacket.specs.Pieces.{CutRule, IsBoundary};
 ghost use Rattle.pre_history.specs.Octets.{Air, ToldActive};
 ghost use Rattle.pre_history.specs.Deliveries.{ComeOnce, DeliversOnce, IsDirect, IsPlain};
@@ -274,11 +274,6 @@ pub fn express_frames_begin()
         → moment_of w t (Phase.starts a) < n → Occupied w h a t
         → (i : ℕ) × (b : Begin) × (size : ℕ) × (slice_get (Begins h a) i ≡ Some b) × (b.tick < t) × SizeOf w h b.kind b size
         × (t < b.tick + (arc w a).cost * (size + 8) + 12 * (arc w a).cost) }
-{}
-
-/// It is decided what an arrival gives.
-pub fn given_is_decided()
-    ensures { (A : List (Option (List ℕ))) (i : ℕ) → ((g : Given) × Gives A i g) ⊎ GivesNothing A i }
 {}
 
 /// In a legal history it is decided whether an arc is good and active at a tick, what of each kind there is to begin, and what begins.

@@ -7,3 +7,6 @@ pub mod Opened
 pub mod OneOpen
 pub mod Counted
 pub mod Rows
+pub mod Decisions
+pub mod GivenDecided
+pub mod CountersFound

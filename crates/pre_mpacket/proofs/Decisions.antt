@@ -3,8 +3,6 @@ use Rattle.std.proofs.Common.{ℕ, zero, suc, ◌≡◌, ◌⊎◌, ◌<◌, ◌
 use Rattle.std.specs.Prelude.{◌↔◌, Any, IsTrue}
 use Rattle.std.specs.Bool.{Decides}
 use Rattle.std.proofs.lemmas.Bool.{cases_lt}
-use Rattle.pre_history.proofs.Lists.{any_at, found_at}
-use Rattle.pre_history.proofs.Decided.{any_decided}
 
 abbrev pub IsDecided : Type 0 → Type 0
 IsDecided P = P ⊎ ¬ P
@@ -64,12 +62,6 @@ equal_lists (x ∷ xs) [] = inr (λ e. cc e)
 equal_lists (x ∷ xs) (y ∷ ys) = elim (equal x y) [
   | inr other ↦ inr (λ e. other (cc e))
   | inl same ↦ elim (equal_lists xs ys) [ inl rest ↦ inl (cc (same, rest)) | inr other ↦ inr (λ e. other (cc e)) ]
-]
-
-pub some_element : {X : Type 0} (P : X → Type 0) → ((x : X) → IsDecided (P x)) → (xs : List X) → IsDecided (Any P xs)
-some_element P decided xs = elim (any_decided P decided xs) [
-  | inl o ↦ inl (any_at P xs o.0 o.1 o.2 o.3)
-  | inr none ↦ inr (λ x. none x.0 x.1 (found_at xs x.0 x.1 x.2 x.3) x.4)
 ]
 
 -- a number below n with a property

@@ -1,17 +1,12 @@
--- The counters of a list of arrivals exist.
+-- A list of arrivals has counters.
 use Rattle.std.proofs.Common.{ℕ, zero, suc, ◌≡◌, ◌<◌, Bool, true, false, List, [], length, refl, sym, ◌∙◌, inl, inr, subst, Option, Some, None}
 use Rattle.std.specs.Prelude.{slice_get, count_by, IsFalse, ◌++◌}
 use Rattle.pre_mpacket.specs.Spelling.{PlainPacket}
 use Rattle.pre_mpacket.specs.Arrivals.{Given, is_start, is_continue, is_fragment, HasCome, Spelled, Gives, IsOpenBefore}
 use Rattle.pre_mpacket.specs.Counters.{HoldsOf, any_kind, IsAccepted, IsAssError, IsSmdError, IsAssOk, IsFragRx, CountersOf}
-use Rattle.pre_history.specs.Scenario.{Scenario}
-use Rattle.pre_history.specs.History.{Counts, PlainEvent, History}
-use Rattle.pre_history.specs.Queries.{Begins, Arrivals}
-use Rattle.pre_history.specs.Octets.{Air}
-use Rattle.pre_history.specs.Legal.{CountLines, count_line}
-use Rattle.pre_history.proofs.Decisions.{IsDecided, both, one_of, negated, less, some_below}
-use Rattle.pre_history.proofs.GivenDecided.{has_kind, gives_decided}
-use Rattle.pre_history.proofs.Known.{one_given}
+use Rattle.pre_mpacket.proofs.Decisions.{IsDecided, both, one_of, negated, less, some_below}
+use Rattle.pre_mpacket.proofs.GivenDecided.{has_kind, gives_decided}
+use Rattle.pre_mpacket.proofs.Chains.{gives_one}
 
 count_some : (P : ℕ → Type 0) → ((i : ℕ) → IsDecided (P i)) → (n : ℕ) → (count : ℕ) × HoldsOf P n count
 count_some P decided zero = (0, refl)
@@ -34,18 +29,18 @@ module _ (A : List (Option (List ℕ))) where
     where
       go : (g : Given) → Gives A i g → IsDecided (Gives A i Given.part)
       go Given.part gives = inl gives
-      go Given.verify gives = inr (λ x. cc (one_given A i Given.verify Given.part gives x))
-      go Given.respond gives = inr (λ x. cc (one_given A i Given.respond Given.part gives x))
-      go (Given.frame octets) gives = inr (λ x. cc (one_given A i (Given.frame octets) Given.part gives x))
+      go Given.verify gives = inr (λ x. cc (gives_one A i Given.verify Given.part gives x))
+      go Given.respond gives = inr (λ x. cc (gives_one A i Given.respond Given.part gives x))
+      go (Given.frame octets) gives = inr (λ x. cc (gives_one A i (Given.frame octets) Given.part gives x))
 
   gives_frame : (i : ℕ) → IsDecided ((octets : List ℕ) × Gives A i (Given.frame octets))
   gives_frame i = elim (gives_decided A i) [ inl (g, gives) ↦ go g gives | inr none ↦ inr (λ x. none (Given.frame x.0) x.1) ]
     where
       go : (g : Given) → Gives A i g → IsDecided ((octets : List ℕ) × Gives A i (Given.frame octets))
       go (Given.frame octets) gives = inl (octets, gives)
-      go Given.part gives = inr (λ x. cc (one_given A i Given.part (Given.frame x.0) gives x.1))
-      go Given.verify gives = inr (λ x. cc (one_given A i Given.verify (Given.frame x.0) gives x.1))
-      go Given.respond gives = inr (λ x. cc (one_given A i Given.respond (Given.frame x.0) gives x.1))
+      go Given.part gives = inr (λ x. cc (gives_one A i Given.part (Given.frame x.0) gives x.1))
+      go Given.verify gives = inr (λ x. cc (gives_one A i Given.verify (Given.frame x.0) gives x.1))
+      go Given.respond gives = inr (λ x. cc (gives_one A i Given.respond (Given.frame x.0) gives x.1))
 
   -- no fragment is spelled at k
   NoFragment : ℕ → Type 0
@@ -95,11 +90,3 @@ module _ (A : List (Option (List ℕ))) where
 
       frag_rx : (i : ℕ) → IsDecided (IsFragRx A i)
       frag_rx i = both (has_kind A is_continue i) (accepted i)
-
-pub lines_some : (w : Scenario) (h : History) (n : ℕ) → (es : List PlainEvent) × CountLines w h n es
-lines_some w h zero = ([], refl)
-lines_some w h (suc a) =
-    let before = lines_some w h a in
-    let o = counters_some (Air w h a) (length (Arrivals h a)) in
-    let c : Counts = record { err = o.0; smd = o.1; ok = o.2; rx = o.3; tx = count_by (λ b. is_continue b.kind) (Begins h a) } in
-    (before.0 ++ count_line a c, (before.0, c, before.1, (o.4, refl), refl))

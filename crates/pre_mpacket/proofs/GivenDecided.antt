@@ -7,7 +7,7 @@ use Rattle.pre_mpacket.specs.declared.packets.Kind.TheVariants as kind
 use Rattle.pre_mpacket.specs.Spelling.{PlainPacket}
 use Rattle.pre_mpacket.specs.Pieces.{joined, IsContinued, IsSequence, IsChecked}
 use Rattle.pre_mpacket.specs.Arrivals.{Given, is_start, is_fragment, IsExpress, IsBare, IsLost, Spelled, HasKind, Fragments, Data, Chain, EndsChain, GivesAs, Gives, GivesNothing}
-use Rattle.pre_history.proofs.Decisions.{IsDecided, both, equal, at_most, equal_lists, is_true, some_below}
+use Rattle.pre_mpacket.proofs.Decisions.{IsDecided, both, equal, at_most, equal_lists, is_true, some_below}
 
 -- ---- kinds
 
