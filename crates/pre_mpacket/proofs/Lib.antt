@@ -8,3 +8,6 @@ pub mod Opened
 pub mod OneOpen
 pub mod Counted
 pub mod Rows
+pub mod Decisions
+pub mod GivenDecided
+pub mod CountersFound

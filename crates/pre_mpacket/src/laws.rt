@@ -1,9 +1,9 @@
-ghost use Rattle.std.specs.Prelude.{◌≡◌, ◌↔◌, ◌<◌, ◌≤◌, ◌+◌, ◌-◌, ◌%◌, ◌++◌, ◌∷◌, [], ℕ, List, Option, length, map, Contains};
+ghost use Rattle.std.specs.Prelude.{◌≡◌, ◌↔◌, ◌<◌, ◌≤◌, ◌+◌, ◌-◌, ◌%◌, ◌++◌, ◌∷◌, [], ℕ, List, Option, length, map, Contains, ◌⊎◌};
 ghost use Rattle.pre_base.specs.declared.limits.TheConstants.{LEAST_FRAME, GREATEST_FRAME, GREATEST_DATA};
 ghost use Rattle.pre_mpacket.specs.declared.packets.Kind.TheVariants.{Start, Continue};
 ghost use Rattle.pre_mpacket.specs.Spelling.{PlainPacket, Spells, mpacket_of};
 ghost use Rattle.pre_mpacket.specs.Pieces.{Begun, CutRule, Carries, SpellEach};
-ghost use Rattle.pre_mpacket.specs.Arrivals.{Given, Gives, EndsChain, Fragments, HasKind, IsOpenBefore, is_fragment};
+ghost use Rattle.pre_mpacket.specs.Arrivals.{Given, Gives, EndsChain, Fragments, HasKind, IsOpenBefore, is_fragment, IsLost, GivesNothing};
 ghost use Rattle.pre_mpacket.specs.Open.{IsOpen};
 ghost use Rattle.pre_mpacket.specs.Counters.{CountersOf};
 ghost use Rattle.pre_crc.specs.Checks.{Fcs, Mcrc};
@@ -105,4 +105,11 @@ pub fn one_count()
         → (a ≡ e) × (b ≡ f) × (c ≡ g) × (d ≡ h) }
     ensures later { (A B : List (Option (List ℕ))) (n a b c d : ℕ)
         → n ≤ length A → CountersOf (A ++ B) n a b c d ↔ CountersOf A n a b c d }
+{}
+
+/// It is decided what each arrival gives, and whether it was lost; and a list of arrivals has counters.
+pub fn given_is_decided()
+    ensures given { (A : List (Option (List ℕ))) (i : ℕ) → ((g : Given) × Gives A i g) ⊎ GivesNothing A i }
+    ensures lost { (A : List (Option (List ℕ))) (i : ℕ) → IsLost A i ⊎ ¬ IsLost A i }
+    ensures counters { (A : List (Option (List ℕ))) (n : ℕ) → (err smd ok rx : ℕ) × CountersOf A n err smd ok rx }
 {}

@@ -3,9 +3,9 @@ ghost use Rattle.std.proofs.Common.{refl, ◌∙◌};
 ghost use Rattle.pre_base.specs.Faults.{HasCause};
 ghost use Rattle.pre_base.specs.Told.{WhereTold, StillTells, StillTells-refl, StillTells-trans};
 ghost use Rattle.pre_base.specs.Sinks.{TakesAll};
-ghost use Rattle.pre_trace.specs.History.{History, PlainEvent};
-ghost use Rattle.pre_trace.specs.Plain.{plain, IsEvent};
-ghost use Rattle.pre_trace.specs.Names.{HasArc, HasNode, IsOf};
+ghost use Rattle.pre_history.specs.History.{History, PlainEvent};
+ghost use Rattle.pre_history.specs.Plain.{plain, IsEvent};
+ghost use Rattle.pre_history.specs.Names.{HasArc, HasNode, IsOf};
 ghost use Rattle.pre_trace.specs.Text.{line};
 ghost use Rattle.pre_trace.specs.Watching.{GoesOn, HoldsText, HoldsTorn};
 
