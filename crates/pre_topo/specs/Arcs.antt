@@ -13,6 +13,8 @@ pub record IsArc (nodes : List Node) (a : Arc) : Type 0 where
   pub delay : a.delay ≤ 10 ^ 9
   pub add_frag : a.add_frag ≤ 3
   pub rings : All (λ r. (1 ≤ r) × (r ≤ 4096)) a.rings
+  pub express_from : (1 ≤ a.express_from) × (a.express_from ≤ 7)
+  pub largest : (64 ≤ a.largest) × (a.largest ≤ 2000)
 
 -- the other arc of its link, where arcs 2i and 2i + 1 are the two of link i
 abbrev pub reverse_of : ℕ → ℕ
@@ -37,4 +39,4 @@ slots_of_arc nodes a = sum a.rings + 3 + latency_at nodes a.to.0 / (84 * a.cost)
 
 -- the octets that may be on an arc's wire: those that leave within its delay, and a longest frame with its preamble
 abbrev pub wires_of_arc : Arc → ℕ
-wires_of_arc a = a.delay / a.cost + 1530
+wires_of_arc a = a.delay / a.cost + 2008
