@@ -9,6 +9,7 @@ use Rattle.std.proofs.lemmas.Option.{same_Some}
 use Rattle.std.proofs.lemmas.List.{length-map}
 use Rattle.std.proofs.lemmas.List.Elements.{All-map, All-cons, All-nil, All-head, All-tail}
 use Rattle.std.proofs.lemmas.List.Sums.{AllPass-from_list_all, passes_at_first}
+use Rattle.pre_base.specs.declared.limits.TheConstants.{LEAST_FRAME, GREATEST_FRAME}
 use Rattle.pre_table.specs.declared.values.Whole.{Whole}
 use Rattle.pre_table.specs.declared.values.Whole.TheVariants.{Natural}
 use Rattle.pre_table.specs.Values.{natural, is_within}
@@ -71,7 +72,7 @@ module _ (top : Whole) (express : IsTrue (is_within 1 7 top)) (nodes : List RawN
     add_frag : natural l.add_frag ≤ 3
     rings : All (λ r. (1 ≤ r) × (r ≤ 4096)) (map natural l.rings)
     express_from : (1 ≤ natural (unwrap_or l.express_from top)) × (natural (unwrap_or l.express_from top) ≤ 7)
-    largest : (64 ≤ natural l.largest) × (natural l.largest ≤ 2000)
+    largest : (LEAST_FRAME ≤ natural l.largest) × (natural l.largest ≤ GREATEST_FRAME)
 
   -- a link's own least express priority, or the file's
   own_or_top : (o : Option Whole) → IsTrue (option_map_or (is_within 1 7) o true) → (1 ≤ natural (unwrap_or o top)) × (natural (unwrap_or o top) ≤ 7)
@@ -81,7 +82,7 @@ module _ (top : Whole) (express : IsTrue (is_within 1 7 top)) (nodes : List RawN
   ranges_of : (l : RawLink) → IsTrue (link_in_range l) → Ranges l
   ranges_of l is =
       let cost_to_rings = ((((is_within 1 1000 l.cost && is_within 0 (10 ^ 9) l.delay) && is_some (mode_of l.mode)) && is_some (policy_of l.policy)) && is_within 0 3 l.add_frag) && list_all (is_within 1 4096) l.rings in
-      let (seven, largest) = and_parts (cost_to_rings && option_map_or (is_within 1 7) l.express_from true) (is_within 64 2000 l.largest) is in
+      let (seven, largest) = and_parts (cost_to_rings && option_map_or (is_within 1 7) l.express_from true) (is_within LEAST_FRAME GREATEST_FRAME l.largest) is in
       let (six, own) = and_parts cost_to_rings (option_map_or (is_within 1 7) l.express_from true) seven in
       let (five, rings) = and_parts ((((is_within 1 1000 l.cost && is_within 0 (10 ^ 9) l.delay) && is_some (mode_of l.mode)) && is_some (policy_of l.policy)) && is_within 0 3 l.add_frag) (list_all (is_within 1 4096) l.rings) six in
       let (four, add_frag) = and_parts (((is_within 1 1000 l.cost && is_within 0 (10 ^ 9) l.delay) && is_some (mode_of l.mode)) && is_some (policy_of l.policy)) (is_within 0 3 l.add_frag) five in
@@ -94,7 +95,7 @@ module _ (top : Whole) (express : IsTrue (is_within 1 7 top)) (nodes : List RawN
         add_frag = (within 0 3 l.add_frag add_frag).1;
         rings = All-map (λ r. (1 ≤ r) × (r ≤ 4096)) natural l.rings (λ k d in_. within 1 4096 (get_or l.rings k d) (AllPass-from_list_all (is_within 1 4096) l.rings rings k d in_));
         express_from = own_or_top l.express_from own;
-        largest = within 64 2000 l.largest largest;
+        largest = within LEAST_FRAME GREATEST_FRAME l.largest largest;
       }
 
   arc_is : (l : RawLink) → IsTrue (link_in_range l) → EndsHold nodes l → IsArc (nodes_made nodes) (arc_made top nodes l)

@@ -1,5 +1,6 @@
 ghost use Rattle.std.specs.Prelude.{◌≡◌, ◌≤◌, ◌<◌, IfOk, IsTrue, length, map, position, unwrap_or, All, true};
 ghost use Rattle.std.specs.Option.{option_map_or};
+ghost use Rattle.pre_base.specs.declared.limits.TheConstants.{LEAST_FRAME, GREATEST_FRAME};
 ghost use Rattle.pre_table.specs.Values.{natural, is_within};
 ghost use Rattle.pre_topo.specs.FileRules.{is_named, link_in_range, timing_in_range};
 ghost use Rattle.pre_topo.specs.Arcs.{turned};
@@ -88,7 +89,7 @@ fn express_from_made(top: Whole, given: Option<Whole>) -> u8
 }
 
 fn largest_made(largest: Whole) -> u16
-    requires { IsTrue (is_within 64 2000 largest) }
+    requires { IsTrue (is_within LEAST_FRAME GREATEST_FRAME largest) }
     ensures { result ≡ natural largest }
 {
     largest.natural() as u16

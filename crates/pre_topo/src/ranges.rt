@@ -7,7 +7,7 @@ ghost use Rattle.pre_topo.specs.FileRules.{timing_in_range, kind_of, node_in_ran
 use crate::checks::{end_fault, name_fault};
 use crate::raw::{RawLink, RawNetwork, RawNode, RawTiming};
 use crate::{Mode, NodeKind, Policy, TopoFault};
-use pre_base::{FileRow, Name};
+use pre_base::{FileRow, GREATEST_FRAME, LEAST_FRAME, Name};
 use pre_table::Whole;
 
 pub(crate) fn kind_of(word: &Name) -> Option<NodeKind>
@@ -90,7 +90,9 @@ fn link_in_range(link: &RawLink) -> bool
         && link.add_frag.is_within(0, 3)
         && are_rings(&link.rings)
         && is_express_from(link.express_from)
-        && link.largest.is_within(64, 2000)
+        && link
+            .largest
+            .is_within(u64::from(LEAST_FRAME), u64::from(GREATEST_FRAME))
 }
 
 fn bad_link(links: &[RawLink]) -> Option<usize>
