@@ -26,7 +26,7 @@ last (x ∷ y ∷ xs) = last (y ∷ xs)
 
 -- what a number past the end of a list names: it is never asked for
 abbrev pub no_arc : Arc
-no_arc = record { from = record { 0 = 0 }; to = record { 0 = 0 }; cost = 0; delay = 0; mode = mode.Off; policy = policy.Quiet; add_frag = 0; rings = [] }
+no_arc = record { from = record { 0 = 0 }; to = record { 0 = 0 }; cost = 0; delay = 0; mode = mode.Off; policy = policy.Quiet; add_frag = 0; rings = []; express_from = 0; largest = 0 }
 
 abbrev pub no_row : Row
 no_row = record { name = []; vid = 0; prio = 0; route = []; arcs = []; max = 0; curve = None }
