@@ -13,8 +13,8 @@ pub record IsDirect (w : Scenario) : Type 0 where
   -- each frame has a route, which takes no arc twice
   pub routes : (f : ℕ) → f < length w.script.sends → 1 ≤ length (hops w f)
   pub once : (f : ℕ) → f < length w.script.sends → AllPairs (λ a b. a ≢ b) (hops w f)
-  -- a preemptable frame takes arcs that never preempt
-  pub whole : (f : ℕ) → f < length w.script.sends → (row w f).prio < w.net.express_from → All (λ a. (arc w a).mode ≡ mode.Off) (hops w f)
+  -- an arc on which it is preemptable never preempts
+  pub whole : (f : ℕ) → f < length w.script.sends → All (λ a. (row w f).prio < (arc w a).express_from → (arc w a).mode ≡ mode.Off) (hops w f)
   -- no mPacket is lost or damaged
   pub losses : w.script.losses ≡ []
   pub damages : w.script.damages ≡ []

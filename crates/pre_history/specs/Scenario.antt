@@ -1,5 +1,5 @@
 -- What a run is given: a network, streams and a script that fit each other.
-use Rattle.std.specs.Prelude.{ℕ, List, [], ◌∷◌, slice_index, slice_index_or, slice_get, Option, Some, None}
+use Rattle.std.specs.Prelude.{ℕ, List, [], ◌∷◌, slice_index, slice_index_or, slice_get, IsSome, Option, Some, None}
 use Rattle.std.specs.Option.{option_map_or}
 use Rattle.pre_base.specs.declared.numbers.NodeId.{NodeId}
 use Rattle.pre_topo.specs.declared.network.Network.{Network}
@@ -50,6 +50,10 @@ module _ (w : Scenario) where
   -- the row of a frame
   abbrev pub row : ℕ → Row
   row f = slice_index_or w.streams.rows (send f).send.stream.0 no_row
+
+  -- an express frame is one of a stream, that is of a row with a curve
+  abbrev pub IsExpressFrame : ℕ → Type 0
+  IsExpressFrame f = IsSome (row f).curve
 
   -- the latency of the arc's end
   abbrev pub latency : ℕ → ℕ

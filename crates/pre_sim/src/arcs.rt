@@ -242,12 +242,13 @@ pub(crate) fn enter<W: Watcher>(
 }
 
 /// The least priority of which frames go whole on an arc: on one that never preempts all do, else the express ones.
-fn least_whole(net: &Network, arc: &Arc) -> Prio
-    ensures { result ≡ least_whole net.now.express_from arc.now.mode }
+fn least_whole(arc: &Arc) -> Prio
+    requires { arc.now.express_from ≤ 7 }
+    ensures { result ≡ least_whole arc.now.express_from arc.now.mode }
 {
     match arc.mode {
         Mode::Off => Prio(0),
-        Mode::On | Mode::Negotiate => Prio(net.express_from),
+        Mode::On | Mode::Negotiate => Prio(arc.express_from),
     }
 }
 
@@ -273,7 +274,7 @@ pub(crate) fn start_on<W: Watcher>(
         return Ok(());
     }
     let link = arc_at(plan.net, arc);
-    let Some(frame) = take_first(&mut lane.rings, least_whole(plan.net, link)) else {
+    let Some(frame) = take_first(&mut lane.rings, least_whole(link)) else {
         return Ok(());
     };
     let number = frame.frame;
