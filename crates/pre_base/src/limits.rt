@@ -15,14 +15,14 @@ pub const GREATEST_DATA: u16 = GREATEST_FRAME - CHECK;
 /// The mData of an mPacket at least.
 pub const LEAST_DATA: u16 = LEAST_FRAME - CHECK;
 
-/// The preamble of a packet, with the delimiter at its end.
-pub const PREAMBLE: u16 = 8;
+/// What stands before the data of a packet: its preamble, with the delimiter at the end.
+pub const HEAD: u64 = 8;
 
 /// The gap between packets (4.4.2).
-pub const GAP: u16 = 12;
+pub const GAP: u64 = 12;
 
 /// What a frame takes of the wire beside its own octets.
-pub const OVERHEAD: u16 = PREAMBLE + GAP;
+pub const OVERHEAD: u64 = HEAD + GAP;
 
-/// A packet at most: the greatest frame with its preamble.
-pub const GREATEST_PACKET: u16 = PREAMBLE + GREATEST_FRAME;
+/// A packet at most: the greatest frame with what stands before it.
+pub const GREATEST_PACKET: u64 = HEAD + GREATEST_FRAME as u64;

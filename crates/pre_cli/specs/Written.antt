@@ -1,12 +1,12 @@
 -- What a command left in its sink.
 use Rattle.std.specs.Prelude.{◌≡◌, ◌⊎◌, ℕ, List, ◌++◌, true}
 use Rattle.pre_base.specs.Sinks.{Taken, TakesBut}
-use Rattle.pre_trace.specs.Scenario.{Scenario}
-use Rattle.pre_trace.specs.History.{History}
+use Rattle.pre_history.specs.Scenario.{Scenario}
+use Rattle.pre_history.specs.History.{History}
 use Rattle.pre_trace.specs.Text.{text}
-use Rattle.pre_trace.specs.Deliveries.{DeliversOnce}
-use Rattle.pre_trace.specs.Legal.{Legal, LegalBefore}
-use Rattle.pre_trace.specs.Written.{AreWritten}
+use Rattle.pre_history.specs.Deliveries.{DeliversOnce}
+use Rattle.pre_history.specs.Legal.{Legal, LegalBefore}
+use Rattle.pre_history.specs.Written.{AreWritten}
 
 -- The text of a legal history. Each of its deliveries has the octets of a frame that was sent, and no frame is delivered
 -- twice. Its events can be told over the network, so the text is no other such history's.
@@ -21,6 +21,7 @@ TakesTrace w old new = TakesText w old new × (new.flushed ≡ true)
 abbrev pub IsLegalSoFar : Scenario → History → Type 0
 IsLegalSoFar w h = Legal w h ⊎ ((n : ℕ) × LegalBefore w h n)
 
--- a front of the text of such a history
+-- A front of the text of such a history. Each delivery so far has the octets of a frame that was sent, and no frame is
+-- delivered twice.
 abbrev pub TakesTextFront : Scenario → Taken → Taken → Type 0
-TakesTextFront w old new = (h : History) × (rest : List ℕ) × IsLegalSoFar w h × TakesBut rest (text w.net h) old new
+TakesTextFront w old new = (h : History) × (rest : List ℕ) × IsLegalSoFar w h × DeliversOnce w h × TakesBut rest (text w.net h) old new

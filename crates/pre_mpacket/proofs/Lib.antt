@@ -1,4 +1,5 @@
 pub mod Spelled
+pub mod FrameSizes
 pub mod Faulted
 pub mod Chains
 pub mod Later
@@ -7,3 +8,6 @@ pub mod Opened
 pub mod OneOpen
 pub mod Counted
 pub mod Rows
+pub mod Decisions
+pub mod GivenDecided
+pub mod CountersFound

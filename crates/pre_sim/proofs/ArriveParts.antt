@@ -6,6 +6,7 @@ use Rattle.std.proofs.lemmas.Bool.{cases_lt}
 use Rattle.std.proofs.lemmas.List.{append-nil}
 use Rattle.std.proofs.lemmas.List.Elements.{filter_map-append}
 use Rattle.std.proofs.lemmas.List.Sums.{fold-append}
+use Rattle.pre_base.specs.declared.limits.TheConstants.{GREATEST_FRAME}
 use Rattle.pre_base.specs.declared.numbers.FrameNo.{FrameNo}
 use Rattle.pre_base.specs.declared.numbers.ArcId.{ArcId}
 use Rattle.pre_streams.specs.declared.rows.Row.{Row}
@@ -16,22 +17,22 @@ use Rattle.pre_bridge.specs.declared.relays.Relay.{Relay}
 use Rattle.pre_bridge.specs.Inside.{Call, Entry, delivered as delivery, after, inside, kept}
 use Rattle.pre_bridge.specs.Table as table
 use Rattle.pre_bridge.specs.Relays.{Stands}
-use Rattle.pre_trace.specs.declared.events.What.TheVariants as what
-use Rattle.pre_trace.specs.declared.events.Outcome.TheVariants as outcome
-use Rattle.pre_trace.specs.Scenario.{Scenario, arc, row, send, source, destination, no_arc, latency, FrameOf}
-use Rattle.pre_trace.specs.Moments.{Phase}
-use Rattle.pre_trace.specs.History.{History, Begin, Ended, Arrive}
-use Rattle.pre_trace.specs.Selected.{begin_on, ended_on, arrive_on, entry_on, frame_in}
-use Rattle.pre_trace.specs.Queries.{Begins, Ends, Arrivals, Entries}
-use Rattle.pre_trace.specs.Octets.{Air}
-use Rattle.pre_trace.specs.Received.{Result}
-use Rattle.pre_trace.specs.Comings.{frame_at, next_arc}
-use Rattle.pre_trace.specs.Rules.{HappensIn, WithDelivery, arrival, delivered}
-use Rattle.pre_trace.specs.Placed.{number, AllBefore}
-use Rattle.pre_trace.specs.Ordered.{IsOrdered, HaveArrived}
-use Rattle.pre_trace.specs.Legal.{LegalUpTo}
-use Rattle.pre_trace.specs.Deliveries.{IsDirect}
-use Rattle.pre_trace.proofs.Undamaged.{user_frame}
+use Rattle.pre_history.specs.declared.events.What.TheVariants as what
+use Rattle.pre_history.specs.declared.events.Outcome.TheVariants as outcome
+use Rattle.pre_history.specs.Scenario.{Scenario, arc, row, send, source, destination, no_arc, latency, FrameOf}
+use Rattle.pre_history.specs.Moments.{Phase}
+use Rattle.pre_history.specs.History.{History, Begin, Ended, Arrive}
+use Rattle.pre_history.specs.Selected.{begin_on, ended_on, arrive_on, entry_on, frame_in}
+use Rattle.pre_history.specs.Queries.{Begins, Ends, Arrivals, Entries}
+use Rattle.pre_history.specs.Octets.{Air}
+use Rattle.pre_history.specs.Received.{Result}
+use Rattle.pre_history.specs.Comings.{frame_at, next_arc}
+use Rattle.pre_history.specs.Rules.{HappensIn, WithDelivery, arrival, delivered}
+use Rattle.pre_history.specs.Placed.{number, AllBefore}
+use Rattle.pre_history.specs.Ordered.{IsOrdered, HaveArrived}
+use Rattle.pre_history.specs.Legal.{LegalUpTo}
+use Rattle.pre_history.specs.Deliveries.{IsDirect}
+use Rattle.pre_history.proofs.Undamaged.{user_frame}
 use Rattle.pre_sim.specs.declared.lanes.Flight.{Flight}
 use Rattle.pre_sim.specs.declared.lanes.Lane.{Lane}
 use Rattle.pre_sim.specs.Reach.{CanRun}
@@ -72,9 +73,9 @@ pub first_on_wire : (w : Scenario) (store : Store) (a t : ℕ) (old new : Lane) 
 first_on_wire w store a t old new f keeps arr = every_at (IsOnWire w a) old.flying.items 0 f keeps.flying arr.was
 
 -- how many octets it has
-pub wire_long : (w : Scenario) → CanRun w.net w.streams w.script → (a : ℕ) (f : Flight) → IsOnWire w a f → (64 ≤ length f.octets.items) × (length f.octets.items ≤ 1522)
+pub wire_long : (w : Scenario) → CanRun w.net w.streams w.script → (a : ℕ) (f : Flight) → IsOnWire w a f → (64 ≤ length f.octets.items) × (length f.octets.items ≤ GREATEST_FRAME)
 wire_long w can a f wire =
-    let sizes : (64 ≤ (send w f.frame.0).send.size) × ((send w f.frame.0).send.size ≤ 1522) = (is_direct w can).sizes f.frame.0 wire.known in
+    let sizes : (64 ≤ (send w f.frame.0).send.size) × ((send w f.frame.0).send.size ≤ GREATEST_FRAME) = (is_direct w can).sizes f.frame.0 wire.known in
     let low : 26 ≤ (send w f.frame.0).send.size = omega (arith, sizes.0) in
     let long : length f.octets.items ≡ (send w f.frame.0).send.size = ap length wire.octets ∙ length-frame_of (destination w f.frame.0) (source w f.frame.0) (row w f.frame.0).prio (row w f.frame.0).vid f.frame.0 (send w f.frame.0).send.size low in
     (omega (arith, long, sizes.0), omega (arith, long, sizes.1))

@@ -10,15 +10,15 @@ use Rattle.pre_rings.specs.Ports.{Port, frames_at, with_frames}
 use Rattle.pre_topo.specs.declared.arcs.Arc.{Arc}
 use Rattle.pre_topo.specs.declared.arcs.Mode.TheVariants as mode
 use Rattle.pre_mpacket.specs.declared.packets.Kind.TheVariants as kind
-use Rattle.pre_trace.specs.declared.events.What.TheVariants as what
-use Rattle.pre_trace.specs.Scenario.{Scenario, arc, send, no_arc}
-use Rattle.pre_trace.specs.Moments.{Phase}
-use Rattle.pre_trace.specs.History.{PlainEvent, History, Begin, Arrive}
-use Rattle.pre_trace.specs.Selected.{begin_on, ended_on, arrive_on}
-use Rattle.pre_trace.specs.Queries.{Begins, Ends, Arrivals, Waiting, Occupied}
-use Rattle.pre_trace.specs.Rules.{HappensIn}
-use Rattle.pre_trace.specs.Placed.{number}
-use Rattle.pre_trace.specs.Ordered.{IsOrdered}
+use Rattle.pre_history.specs.declared.events.What.TheVariants as what
+use Rattle.pre_history.specs.Scenario.{Scenario, arc, send, no_arc}
+use Rattle.pre_history.specs.Moments.{Phase}
+use Rattle.pre_history.specs.History.{PlainEvent, History, Begin, Arrive}
+use Rattle.pre_history.specs.Selected.{begin_on, ended_on, arrive_on}
+use Rattle.pre_history.specs.Queries.{Begins, Ends, Arrivals, Waiting, Occupied}
+use Rattle.pre_history.specs.Rules.{HappensIn}
+use Rattle.pre_history.specs.Placed.{number}
+use Rattle.pre_history.specs.Ordered.{IsOrdered}
 use Rattle.pre_bridge.specs.Inside.{Entry}
 use Rattle.pre_sim.specs.declared.lanes.Sending.{Sending}
 use Rattle.pre_sim.specs.declared.lanes.Lane.{Lane}
@@ -147,10 +147,10 @@ module _ (laws : Laws) (w : Scenario) (can : CanRun w.net w.streams w.script) (t
   busy_part not_free = still (λ h items legal is. busy_starts w h t a (talks h items legal is) is.on.whole (busy h items legal is not_free))
 
   -- no frame waits
-  pub calm_part : (link : Arc) → slice_get w.net.arcs a ≡ Some link → (least : ℕ) → least ≡ least_whole w.net.express_from link.mode → NoneWaits least lane.rings → (new : Lane) → new ≡ lane
+  pub calm_part : (link : Arc) → slice_get w.net.arcs a ≡ Some link → (least : ℕ) → least ≡ least_whole link.express_from link.mode → NoneWaits least lane.rings → (new : Lane) → new ≡ lane
       → (store : Store) → LanePart w t k a 0 (t + 1) store store lane new [] []
   calm_part link found least is_least none new same =
-      let its : least ≡ least_whole w.net.express_from (arc w a).mode = is_least ∙ ap (λ (l : Arc). least_whole w.net.express_from l.mode) (sym (read_at w.net.arcs a link no_arc found)) in
+      let its : least ≡ least_whole (arc w a).express_from (arc w a).mode = is_least ∙ ap (λ (l : Arc). least_whole l.express_from l.mode) (sym (read_at w.net.arcs a link no_arc found)) in
       let empty : (p : ℕ) → frames_at lane.rings p ≡ [] = none_at_all w can store a lane.rings keeps.eight keeps.waiting (subst (λ m. NoneWaits m lane.rings) its none) in
       subst (λ (l : Lane). (x : Store) → LanePart w t k a 0 (t + 1) x x lane l [] []) (sym same)
       (still (λ h items legal is. idle_starts w h t a (talks h items legal is) is.on.whole (λ p. none_waits h items legal is p (empty p))))

@@ -2,17 +2,18 @@
 -- where nothing is told.
 use Rattle.std.specs.Prelude.{ℕ, suc, ◌+◌, ◌-◌, ◌*◌, ◌<◌, ◌≤◌, ◌≡◌, ◌≢◌, ◌==◌, ◌&&◌, not, Bool, if◌then◌else◌, List, [], ◌∷◌, length, map, filter, filter_map, take, drop, count_by, Option, Some, None, MatchOption, slice_get, option_map, option_and_then}
 use Rattle.std.specs.List.{list_any, AllByRecursion as Every}
+use Rattle.pre_base.specs.declared.limits.TheConstants.{GAP}
 use Rattle.pre_base.specs.declared.numbers.FrameNo.{FrameNo}
 use Rattle.pre_mpacket.specs.declared.packets.Kind.TheVariants as kind
 use Rattle.pre_rings.specs.Ports.{Port, frames_at}
-use Rattle.pre_trace.specs.declared.events.What.TheVariants as what
-use Rattle.pre_trace.specs.Scenario.{Scenario, arc, send, capacity, latency}
-use Rattle.pre_trace.specs.Placed.{number}
-use Rattle.pre_trace.specs.History.{Begin, Ended, Arrive, History}
-use Rattle.pre_trace.specs.Selected.{what_is, frame_in, is_frame_result, is_dropped}
-use Rattle.pre_trace.specs.Queries.{Begins, Ends, Arrivals, Entries, Deliveries}
-use Rattle.pre_trace.specs.Comings.{next_arc}
-use Rattle.pre_trace.specs.Legal.{LegalUpTo}
+use Rattle.pre_history.specs.declared.events.What.TheVariants as what
+use Rattle.pre_history.specs.Scenario.{Scenario, arc, send, capacity, latency}
+use Rattle.pre_history.specs.Placed.{number}
+use Rattle.pre_history.specs.History.{Begin, Ended, Arrive, History}
+use Rattle.pre_history.specs.Selected.{what_is, frame_in, is_frame_result, is_dropped}
+use Rattle.pre_history.specs.Queries.{Begins, Ends, Arrivals, Entries, Deliveries}
+use Rattle.pre_history.specs.Comings.{next_arc}
+use Rattle.pre_history.specs.Legal.{LegalUpTo}
 use Rattle.pre_bridge.specs.Inside.{Call, Entry, of_arc, inside}
 use Rattle.pre_bridge.specs.Relays as relays
 use Rattle.pre_sim.specs.declared.lanes.Sending.{Sending}
@@ -72,8 +73,8 @@ AreFlying w a begins (f ∷ fs) (e ∷ es) = IsFlying w a begins f e × AreFlyin
 
 -- The tick is the end of the gap of twelve octets behind the last end, and 0 where none ended.
 pub record IsFreeFrom (w : Scenario) (a : ℕ) (ends : List Ended) (tick : ℕ) : Type 0 where
-  pub behind : Every (λ e. e.tick + 12 * (arc w a).cost ≤ tick) ends
-  pub least : 0 < tick → (e : Ended) × (slice_get ends (length ends - 1) ≡ Some e) × (tick ≡ e.tick + 12 * (arc w a).cost)
+  pub behind : Every (λ e. e.tick + GAP * (arc w a).cost ≤ tick) ends
+  pub least : 0 < tick → (e : Ended) × (slice_get ends (length ends - 1) ≡ Some e) × (tick ≡ e.tick + GAP * (arc w a).cost)
 
 -- a whole frame
 pub record IsWholeBegin (b : Begin) : Type 0 where

@@ -39,7 +39,7 @@ fn wires_of_arc(arc: &Arc) -> u64
     ensures value { result ≡ wires_of_arc arc.now }
     ensures small { result ≤ 2 ^ 60 }
 {
-    arc.delay / arc.cost + u64::from(GREATEST_PACKET)
+    arc.delay / arc.cost + GREATEST_PACKET
 }
 
 /// The frames that may be kept for the arcs.

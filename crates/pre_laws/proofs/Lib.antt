@@ -1,0 +1,15 @@
+pub mod Routed
+pub mod FrameArrivals
+pub mod Begun
+pub mod Runs
+pub mod RunSteps
+pub mod FirstOctets
+pub mod Once
+pub mod Delivered
+pub mod Parts
+pub mod Spared
+pub mod Fitting
+pub mod RingsOnce
+pub mod Reassembled
+pub mod ComeOn
+pub mod Interruptions

@@ -1,0 +1,10 @@
+//! Laws of what frames do in a legal history: their routes, their fragments, their arrivals and their deliveries.
+#![tactic(auto)]
+
+mod laws;
+
+pub use laws::{
+    deliveries_are_of_frames_sent, files_give_routes, frames_arrive_whole, frames_come_on,
+    frames_go_in_parts, frames_keep_to_routes, frames_take_arcs_once,
+    kept_fragments_give_the_frame, spared_frames_are_received,
+};
