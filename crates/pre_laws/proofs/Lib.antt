@@ -13,3 +13,4 @@ pub mod RingsOnce
 pub mod Reassembled
 pub mod ComeOn
 pub mod Interruptions
+pub mod Writable

@@ -1,4 +1,4 @@
-ghost use Rattle.std.specs.Prelude.{◌<◌, ◌≤◌, ◌+◌, ◌≡◌, ◌≢◌, ◌⊎◌, ℕ, true, length, slice_get, Some, AllPairs};
+ghost use Rattle.std.specs.Prelude.{◌<◌, ◌≤◌, ◌+◌, ◌≡◌, ◌≢◌, ◌⊎◌, ℕ, true, length, slice_get, Some, AllPairs, All};
 ghost use Rattle.pre_laws.specs.Routed.{ArrivesWhole, ComesFirst, ComesNext, HasCome, IsEntry, IsRouted, IsOnRoute};
 ghost use Rattle.pre_base.specs.declared.numbers.FrameNo.{FrameNo};
 ghost use Rattle.pre_history.specs.History.{Arrive, Begin, Ended, Entry, History};
@@ -9,7 +9,7 @@ ghost use Rattle.pre_history.specs.Deliveries.{ComeOnce, DeliversOnce};
 ghost use Rattle.pre_history.specs.Comings.{Comings, first_arc, frame_at, next_arc};
 ghost use Rattle.pre_history.specs.Placed.{moment_of};
 ghost use Rattle.pre_history.specs.Octets.{Air};
-ghost use Rattle.pre_history.specs.Legal.{Spared, Legal, LegalBefore, LegalUpTo};
+ghost use Rattle.pre_history.specs.Legal.{Spared, Legal, LegalBefore, LegalUpTo, last_moment};
 ghost use Rattle.pre_history.specs.Scenario.{FrameOf, Scenario, arc, latency, row, send};
 ghost use Rattle.pre_history.specs.Moments.{Phase};
 ghost use Rattle.pre_history.specs.declared.events.What.TheVariants as what;
@@ -17,6 +17,7 @@ ghost use Rattle.pre_history.specs.declared.events.Outcome.TheVariants as outcom
 ghost use Rattle.pre_mpacket.specs.declared.packets.Kind.TheVariants as kind;
 ghost use Rattle.pre_streams.specs.Fits as streams;
 ghost use Rattle.pre_script.specs.Fits as script;
+ghost use Rattle.pre_history.specs.Written.{AreWritten};
 
 /// Octets of a frame begin only on an arc of its route, not before it is sent, and the frame is of the script.
 pub fn frames_keep_to_routes()
@@ -105,4 +106,11 @@ pub fn frames_come_on()
         → slice_get (Arrivals h a) i ≡ Some x → x.result ≡ outcome.Frame → frame_at h a i ≡ Some f → next_arc w a f ≡ Some b
         → moment_of w (x.tick + latency w a) Phase.entries < n
         → (j : ℕ) × IsEntry h j (record { tick = x.tick + latency w a; arc = b; prio = (row w f).prio; frame = f }) }
+{}
+
+/// What is told of files that fit can be written: up to the last moment, each event of a history that is legal with no alias names
+/// arcs and nodes of the network, and numbers and octets in their ranges. Priorities are below 8 by their type.
+pub fn legal_histories_are_written()
+    ensures { (w : Scenario) → streams.Fits w.net w.streams → script.Fits w.net w.streams w.script → All (λ r. r.prio < 8) w.streams.rows
+        → (n : ℕ) (h : History) → n ≤ last_moment w → LegalBefore w h n → AreWritten w.net h }
 {}
