@@ -14,3 +14,4 @@ pub mod Reassembled
 pub mod ComeOn
 pub mod Interruptions
 pub mod Writable
+pub mod SparedFlows
