@@ -13,3 +13,5 @@ pub mod RingsOnce
 pub mod Reassembled
 pub mod ComeOn
 pub mod Interruptions
+pub mod Writable
+pub mod SparedFlows

@@ -44,9 +44,17 @@ pub record GoesOn (w : Scenario) (h : History) (a m : ℕ) (d : Begin) : Type 0 
   pub least : least_fragment (arc w a).add_frag ≤ ended.size - 4
   pub left : d.from + 64 ≤ length (FrameOf w frame.0)
 
--- No line of the script loses or damages the mPacket.
+-- No line of the script damages the mPacket.
+abbrev pub IsUndamaged : Scenario → Begin → Type 0
+IsUndamaged w b = filter (names_damage b) w.script.damages ≡ []
+
+-- No line loses or damages it.
 abbrev pub IsKept : Scenario → Begin → Type 0
-IsKept w b = (is_lost w b ≡ false) × (filter (names_damage b) w.script.damages ≡ [])
+IsKept w b = (is_lost w b ≡ false) × IsUndamaged w b
+
+-- No mPacket that began on the arc from place s up to place i is damaged; each may be lost.
+abbrev pub AreUndamaged : Scenario → History → (a s i : ℕ) → Type 0
+AreUndamaged w h a s i = (k : ℕ) (b : Begin) → s ≤ k → k ≤ i → slice_get (Begins h a) k ≡ Some b → IsUndamaged w b
 
 -- What is left of the frame that is interrupted at the tick: the last fragment that began before it ended, and was cut.
 pub record IsLeft (w : Scenario) (h : History) (a t : ℕ) (left : Rest) : Type 0 where
