@@ -7,8 +7,7 @@ use Rattle.pre_receive.proofs.receivers.Receiver.take.Goals as goal
 pub returns : goal.returns
 returns c =
     let taken : (A : List (Option (List ℕ))) → Stands c.args.self.now A → IsTaken (A ++ Some c.args.arrived.now ∷ []) (length A) (plain c.lent.result) =
-        λ A stands. subst (IsTaken (A ++ Some c.args.arrived.now ∷ []) (length A)) (sym c.lent.ensures) (c.receive-outcome.ensures.taken A stands) in
-    (
+    λ A stands. subst (IsTaken (A ++ Some c.args.arrived.now ∷ []) (length A)) (sym c.lent.ensures) (c.receive-outcome.ensures.taken A stands) in (
       (refl, λ _. tt, c.receive-outcome.ensures.stands),
       record {
         after = tt;
