@@ -103,7 +103,7 @@ module _ (w : Scenario) (routed : IsRouted w) (n : ℕ) (h : History) (legal : L
 
   -- ---- sizes
 
-  from_start : (m : ℕ) (d : Begin) → slice_get (Begins h a) m ≡ Some d → is_fragment d.kind ≡ false → d.from ≡ 0
+  pub from_start : (m : ℕ) (d : Begin) → slice_get (Begins h a) m ≡ Some d → is_fragment d.kind ≡ false → d.from ≡ 0
   from_start m d at off = let it = by_item w n h legal a a_lt m d at in go it.0 it.1
     where
       go : (it : Item) → There w h a d.tick it (choice_of d) → d.from ≡ 0
@@ -114,7 +114,7 @@ module _ (w : Scenario) (routed : IsRouted w) (n : ℕ) (h : History) (legal : L
       go Item.lldp (on, wanted, by) = ap (λ (c : Choice). c.from) by
       go Item.rest (left, interrupted, by) = absurd (cc (sym off ∙ ap (λ (c : Choice). is_fragment c.kind) by))
 
-  whole_size : (k : Kind) (d : Begin) (size : ℕ) → is_fragment k ≡ false → SizeOf w h k d size → size ≡ length (WholeOf w h d)
+  pub whole_size : (k : Kind) (d : Begin) (size : ℕ) → is_fragment k ≡ false → SizeOf w h k d size → size ≡ length (WholeOf w h d)
   whole_size kind.Express d size off is = is
   whole_size kind.Verify d size off is = is
   whole_size kind.Respond d size off is = is
@@ -122,7 +122,7 @@ module _ (w : Scenario) (routed : IsRouted w) (n : ℕ) (h : History) (legal : L
   whole_size (kind.Continue c i) d size off is = absurd (cc off)
 
   module _ (m : ℕ) (d : Begin) (e : Ended) (at : slice_get (Begins h a) m ≡ Some d) (over : slice_get (Ends h a) m ≡ Some e) where
-    size_fits : (d.from + e.size ≤ length (WholeOf w h d)) × (64 ≤ e.size)
+    pub size_fits : (d.from + e.size ≤ length (WholeOf w h d)) × (64 ≤ e.size)
     size_fits = go (is_fragment d.kind) refl
       where
         sized : SizeOf w h d.kind d e.size
@@ -153,7 +153,7 @@ module _ (w : Scenario) (routed : IsRouted w) (n : ℕ) (h : History) (legal : L
         go false = length-Mcrc (take (d.from + e.size - 4) (WholeOf w h d))
 
     -- what is spelled where it arrives
-    abbrev told : PlainPacket
+    abbrev pub told : PlainPacket
     told = record { kind = d.kind; mdata = take (e.size - 4) (drop d.from (WholeOf w h d)); check = e.check }
 
     pub spelled : IsKept w d → Spelled (Air w h a) m ≡ Some told
