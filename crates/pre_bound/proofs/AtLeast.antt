@@ -1,28 +1,29 @@
 -- Each number of a good certificate is at least the least solution over the numbers before it; so, along the order of its
 -- ranks, at least the settled numbers.
-use Rattle.std.proofs.Common.{◌≡◌, ℕ, zero, suc, ◌+◌, ◌-◌, ◌*◌, ◌<◌, ◌≤◌, max, true, List, Option, Some, None, sym, ap, subst, arith, inl, inr, length, get_or}
+use Rattle.std.proofs.Common.{◌≡◌, ℕ, zero, suc, ◌==◌, ◌∙◌, ◌+◌, ◌-◌, ◌*◌, ◌<◌, ◌≤◌, max, min, Bool, true, false, List, Option, Some, None, sym, ap, subst, arith, refl, if◌then◌else◌, inl, inr, length, get_or}
 use Rattle.std.specs.Prelude.{slice_get, Contains, IsSome}
 use Rattle.std.specs.Option.{option_map, option_map_or}
-use Rattle.std.proofs.Math.Nat.{mul-le-mul_left}
-use Rattle.std.proofs.lemmas.Bool.{cases_lt}
+use Rattle.std.proofs.Math.Nat.{mul-le-mul_left, min-le_left, min-le_right, le-min}
+use Rattle.std.proofs.lemmas.Bool.{cases_lt, eqb-true, eq-eqb, true≢false}
+use Rattle.pre_base.specs.declared.limits.TheConstants.{OVERHEAD}
 use Rattle.pre_base.specs.declared.numbers.ArcId.{ArcId}
 use Rattle.pre_topo.specs.declared.network.Network.{Network}
 use Rattle.pre_topo.specs.declared.arcs.Arc.{Arc}
 use Rattle.pre_topo.specs.Arcs.{latency_at}
 use Rattle.pre_streams.specs.declared.rows.Row.{Row}
 use Rattle.pre_bound.specs.Solutions.{CoversDelay}
-use Rattle.pre_bound.specs.Uses.{TakesAt, hop_of, is_on, has_port, rate_of, cost_at, preemptable_at, Follows, rates_on}
+use Rattle.pre_bound.specs.Uses.{TakesAt, hop_of, is_on, has_port, rate_of, cost_at, cuts, fragment_octets, preemptable_octets, preemptable_at, has_flow, largest_at, largest_used, Follows, rates_on}
 use Rattle.pre_bound.specs.Along.{Delays, burst_at, burst_on, bursts_on, hop_ticks, route_ticks, least_block, least_work, rate_above, port_delay, port_size}
 use Rattle.pre_bound.specs.Values.{Values}
-use Rattle.pre_bound.specs.Clauses.{certified_bursts, Block}
+use Rattle.pre_bound.specs.Clauses.{certified_bursts, Largest}
 use Rattle.pre_bound.specs.Chains.{EndsChain, AreRanks}
-use Rattle.pre_bound.specs.Good.{AreGood, IsStream, AtPorts}
+use Rattle.pre_bound.specs.Good.{AreGood, AreInOrder, IsStream, AtPorts}
 use Rattle.pre_bound.specs.Settled.{Settled, ValuesAtMost, values_over, PriosBelow}
 use Rattle.pre_bound.specs.Order.{Rise}
 use Rattle.pre_bound.proofs.Within.{ArcsWithin}
 use Rattle.pre_bound.proofs.Solved.{least_delay-le, least_growth-le, least_size-le}
 use Rattle.pre_bound.proofs.Sums.{sums_le, greatest_le, mul_max, sum_by-le-at}
-use Rattle.pre_bound.proofs.Hops.{TakesAt-place, TakesAt-from, TakesAt-hop_of, OnArc-from, has_port-from, burst_at-suc, contains_at}
+use Rattle.pre_bound.proofs.Hops.{TakesAt-place, TakesAt-from, TakesAt-hop_of, OnArc-from, has_port-from, has_arc-from_port, burst_at-suc, contains_at}
 
 -- ranks rise along a route
 pub rank_rises : (rows : List Row) (rank : ℕ → ℕ) (order : (arc next : ℕ) → Follows rows arc next → rank arc < rank next) (r : Row) → Contains rows r → IsSome r.curve
@@ -46,11 +47,50 @@ rank_rises rows rank order r listed express i (suc k) a b h here there =
           subst (λ n. rank n < rank b) eq one
     ]
 
+-- greater preemptable frames hold an arc for longer
+preemptable_octets-le : (a : Arc) (l m : ℕ) → l ≤ m → preemptable_octets a l ≤ preemptable_octets a m
+preemptable_octets-le a l m h = by_zero (l == 0) (m == 0) refl refl
+  where
+    held : Bool → ℕ → ℕ
+    held b n = if b then min (n + OVERHEAD) (fragment_octets a) else n + OVERHEAD
+
+    held-le : (b : Bool) → held b l ≤ held b m
+    held-le true =
+        let one = min-le_left (l + OVERHEAD) (fragment_octets a) in
+        le-min (omega (arith, one, h)) (min-le_right (l + OVERHEAD) (fragment_octets a))
+    held-le false = omega (arith, h)
+
+    by_zero : (b c : Bool) → b ≡ (l == 0) → c ≡ (m == 0) → (if b then 0 else held (cuts a.mode a.policy) l) ≤ (if c then 0 else held (cuts a.mode a.policy) m)
+    by_zero true c is_l is_m = omega arith
+    by_zero false true is_l is_m =
+        let none : m ≡ 0 = eqb-true m 0 (sym is_m) in
+        absurd (true≢false (sym (eq-eqb l 0 (omega (arith, h, none))) ∙ sym is_l))
+    by_zero false false is_l is_m = held-le (cuts a.mode a.policy)
+
+preemptable_at-le : (net : Network) (arc l m : ℕ) → l ≤ m → preemptable_at net arc l ≤ preemptable_at net arc m
+preemptable_at-le net arc l m h = by_cases (slice_get net.arcs arc)
+  where
+    by_cases : (o : Option Arc) → option_map_or (λ a. preemptable_octets a l) o 0 ≤ option_map_or (λ a. preemptable_octets a m) o 0
+    by_cases None = omega arith
+    by_cases (Some a) = preemptable_octets-le a l m h
+
+-- a certified greatest frame is at least the one that is used
+pub largest_used-le : (net : Network) (rows : List Row) (v : Values) (arc : ℕ) → Largest net rows v arc → largest_used net rows arc ≤ v.largest arc
+largest_used-le net rows v arc clause = by_cases (has_flow rows arc) clause
+  where
+    by_cases : (b : Bool) → (b ≡ true → largest_at net arc ≤ v.largest arc) → (if b then largest_at net arc else 0) ≤ v.largest arc
+    by_cases true h = h refl
+    by_cases false h = omega arith
+
 -- the block of a port
-pub least_block-le : (net : Network) (rows : List Row) (v : Values) (a p : ℕ) → Block net rows v a p → least_block net rows a p ≤ v.block a p
-least_block-le net rows v a p clause =
-    greatest_le (λ r. r.max + 20) (is_on a 0 p) (cost_at net a) (v.block a p) (max 84 (preemptable_at net a)) rows
-    (mul_max (cost_at net a) 84 (preemptable_at net a) (v.block a p) clause.frame clause.preemptable) (λ r listed on. clause.lower r listed on)
+pub good_block-le : (net : Network) (rows : List Row) (v : Values) → AreGood net rows v → (a p : ℕ) → a < length net.arcs → p < 8 → has_port rows a p ≡ true → least_block net rows a p ≤ v.block a p
+good_block-le net rows v good a p inside prio port =
+    let clause = good.block a p inside prio port in
+    let used = preemptable_at net a (largest_used net rows a) in
+    let large = largest_used-le net rows v a (good.largest a inside (has_arc-from_port rows a p prio port)) in
+    let term = mul-le-mul_left (cost_at net a) (preemptable_at-le net a (largest_used net rows a) (v.largest a) large) in
+    greatest_le (λ r. r.max + OVERHEAD) (is_on a 0 p) (cost_at net a) (v.block a p) (max 84 used) rows
+    (mul_max (cost_at net a) 84 used (v.block a p) clause.frame (omega (arith, term, clause.preemptable))) (λ r listed on. clause.lower r listed on)
 
 -- a greater delay takes more ticks
 pub hop_le : (net : Network) (a d e : ℕ) → d ≤ e → hop_ticks net a d ≤ hop_ticks net a e
@@ -112,7 +152,7 @@ module _ (net : Network) (rows : List Row) (delays : Delays) (v : Values) (withi
       let enough : least_work net rows delays a p ≤ v.work a p = omega (arith, product, work.bursts) in
       let covers = good.delay a p inside prio port in
       least_delay-le (least_block net rows a p) (least_work net rows delays a p) (rate_above rows a p) (cost_at net a) (v.block a p) (v.work a p) (v.delay a p)
-      (least_block-le net rows v a p (good.block a p inside prio port)) enough
+      (good_block-le net rows v good a p inside prio port) enough
       (subst (λ n. CoversDelay (v.block a p) (v.work a p) n (cost_at net a) (v.delay a p)) work.rate covers)
 
   -- its work and its size
@@ -159,11 +199,11 @@ module _ (net : Network) (rows : List Row) (delays : Delays) (v : Values) (withi
         (delays_le x.0 r.prio (within r listed i x.0 here) (prio_below r listed) (has_port-from rows r x.0 i listed express here)))
 
     -- a chain is no longer than a good rank
-    chain_le : (n a : ℕ) → EndsChain rows n a → n ≤ v.rank a
-    chain_le zero a chain = omega arith
-    chain_le (suc n) a chain =
-        let before = chain_le n chain.0 chain.2 in
-        let rises = good.rank_order chain.0 a chain.1 in
+    chain_le : AreInOrder rows v → (n a : ℕ) → EndsChain rows n a → n ≤ v.rank a
+    chain_le order zero a chain = omega arith
+    chain_le order (suc n) a chain =
+        let before = chain_le order n chain.0 chain.2 in
+        let rises = order chain.0 a chain.1 in
         omega arith
 
     burst_everywhere : (stream : ℕ) (r : Row) → IsStream rows stream r → (j : ℕ) → j < length r.arcs → burst_at net delays r j ≤ v.burst stream j
@@ -172,10 +212,11 @@ module _ (net : Network) (rows : List Row) (delays : Delays) (v : Values) (withi
         burst_le stream r is j inside
         (λ i a less at. delays_le a r.prio (within r listed i a at) (prio_below r listed) (has_port-from rows r a i listed is.express at))
 
-    pub values_le : (chain : ℕ → ℕ) → AreRanks net rows chain → ValuesAtMost net rows (values_over net rows chain delays) v
-    values_le chain ranks = record {
-      rank = λ a inside. chain_le (chain a) a (ranks a inside).chain;
-      block = λ a p inside prio port. least_block-le net rows v a p (good.block a p inside prio port);
+    pub values_le : AreInOrder rows v → (chain : ℕ → ℕ) → AreRanks net rows chain → ValuesAtMost net rows (values_over net rows chain delays) v
+    values_le order chain ranks = record {
+      rank = λ a inside. chain_le order (chain a) a (ranks a inside).chain;
+      largest = λ a inside used. largest_used-le net rows v a (good.largest a inside used);
+      block = λ a p inside prio port. good_block-le net rows v good a p inside prio port;
       work = λ a p inside prio port. work_le a p inside prio port (λ b q lower. delays_le b q);
       rate = λ a p inside prio port. let same = (good.work a p inside prio port).rate in omega (arith, same);
       delay = delays_le;

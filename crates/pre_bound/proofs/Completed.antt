@@ -29,9 +29,10 @@ use Rattle.pre_bound.specs.Order.{Rise}
 use Rattle.pre_bound.specs.Complete.{ValuesWithin, SettledBelow}
 use Rattle.pre_bound.proofs.Solved.{least_growth-le}
 use Rattle.pre_bound.proofs.Sums.{contains_tail}
+use Rattle.pre_bound.proofs.Ranked.{All-mapped, All-kept, in_place, range_at, ranks_rise}
 use Rattle.pre_bound.proofs.Within.{ArcsWithin, ArcsWithin-fits}
 use Rattle.pre_bound.proofs.Hops.{TakesAt-place, TakesAt-from, TakesAt-hop_of, OnArc-from, has_port-from, contains_at}
-use Rattle.pre_bound.proofs.AtLeast.{rank_rises, least_block-le, hop_le, burst_le, delay_le, work_le, size_le, sizes_le, delays_below}
+use Rattle.pre_bound.proofs.AtLeast.{rank_rises, good_block-le, hop_le, burst_le, delay_le, work_le, size_le, sizes_le, delays_below}
 use Rattle.pre_bound.proofs.Ordered.{SameOnTheWay, ticks-suc, alike, delay_same}
 
 -- a number within the limit doesn't pass it
@@ -72,7 +73,7 @@ module _ (net : Network) (rows : List Row) (delays : Delays) (v : Values) (withi
   -- the port's own numbers
   port_quiet : (p : ℕ) → p < 8 → has_port rows a p ≡ true → port_passes net rows delays a p ≡ false
   port_quiet p prio port =
-      let block = least_block-le net rows v a p (good.block a p inside prio port) in
+      let block = good_block-le net rows v good a p inside prio port in
       let work = work_le net rows delays v within prio_below good rank rise a p inside prio port below in
       let delay = delay_le net rows delays v within prio_below good rank rise a p inside prio port below in
       let size = size_le net rows delays v within prio_below good rank rise a p inside prio port below in
@@ -160,34 +161,9 @@ All-back : {X : Type 0} (P : X → Type 0) (xs ys : List X) → All P (xs ++ ys)
 All-back P [] ys h = h
 All-back P (x ∷ xs) ys h = All-back P xs ys (All-tail P x (xs ++ ys) h)
 
-All-mapped : {X Y : Type 0} (P : Y → Type 0) (f : X → Y) (xs : List X) → All P (map f xs) → All (λ x. P (f x)) xs
-All-mapped P f [] h = All-nil (λ x. P (f x))
-All-mapped P f (x ∷ xs) h = All-cons (λ y. P (f y)) x xs (All-head P (f x) (map f xs) h) (All-mapped P f xs (All-tail P (f x) (map f xs) h))
-
 All-pieces : {X Y : Type 0} (P : Y → Type 0) (f : X → List Y) (xs : List X) → All P (flat_map f xs) → All (λ x. All P (f x)) xs
 All-pieces P f [] h = All-nil (λ x. All P (f x))
 All-pieces P f (x ∷ xs) h = All-cons (λ y. All P (f y)) x xs (All-front P (f x) (flat_map f xs) h) (All-pieces P f xs (All-back P (f x) (flat_map f xs) h))
-
--- an element that passes is kept
-All-kept : {X : Type 0} (P : X → Type 0) (p : X → Bool) (xs : List X) → All P (filter p xs) → (k : ℕ) (x : X) → slice_get xs k ≡ Some x → p x ≡ true → P x
-All-kept P p [] h k x e on = absurd (cc)
-All-kept P p (y ∷ xs) h zero x e on =
-    let same : y ≡ x = cc in
-    let passes : p y ≡ true = ap p same ∙ on in
-    subst P same (All-head P y (filter p xs) (subst (λ b. All P (cond b (y ∷ filter p xs) (filter p xs))) passes h))
-All-kept P p (y ∷ xs) h (suc k) x e on =
-    elim (cases_Bool (p y)) [
-      | inl passes ↦ All-kept P p xs (All-tail P y (filter p xs) (subst (λ b. All P (cond b (y ∷ filter p xs) (filter p xs))) passes h)) k x e on
-      | inr fails ↦ All-kept P p xs (subst (λ b. All P (cond b (y ∷ filter p xs) (filter p xs))) fails h) k x e on
-    ]
-
-in_place : (n k : ℕ) → k < n → get_or (range_with_len 0 n) k 0 ≡ k
-in_place n k inside = let same = get_or-range_with_len 0 n k 0 inside in omega (arith, same)
-
-range_at : (n k : ℕ) → k < n → slice_get (range_with_len 0 n) k ≡ Some k
-range_at n k inside =
-    slice_get-get_or (range_with_len 0 n) k 0 (omega (arith, inside, length-range_with_len 0 n))
-    ∙ ap (λ x. Some x) (in_place n k inside)
 
 enumerated_at : {X : Type 0} (n : ℕ) (xs : List X) (i k : ℕ) (x : X) → n + i ≡ k → slice_get xs i ≡ Some x → slice_get (enumerate_from n xs) i ≡ Some (k, x)
 enumerated_at n [] i k x same e = absurd (cc)
@@ -244,16 +220,16 @@ module _ (net : Network) (rows : List Row) (c : Certificate) (v : Values) (says 
 
 pub good_pass_nowhere : (net : Network) (streams : Streams) (rank : ℕ → ℕ) (delays : Delays) → Fits net streams → PriosBelow streams.rows → Rise streams.rows rank → HasGood net streams
     → AtPorts net streams.rows (λ arc prio. SettledBelow net streams.rows rank delays arc → passes net streams.rows delays arc prio ≡ false)
-good_pass_nowhere net streams rank delays fits prios rise (c, good) a p inside prio port settled =
+good_pass_nowhere net streams rank delays fits prios rise (c, good, ranked) a p inside prio port settled =
     let within = ArcsWithin-fits net streams fits in
     port_passes_nowhere net streams.rows delays good.values within prios good.good (values_within net streams.rows c good.values good.says) rank rise a inside
     (λ b q lower there low other. delays_below net streams.rows delays good.values within prios good.good rank rise (rank a) settled (suc (rank b)) b q (omega arith) lower there low other)
     p prio port
 
 pub good_have_room : (net : Network) (streams : Streams) (delays : Delays) → Fits net streams → PriosBelow streams.rows → HasGood net streams → Settled net streams.rows delays → HaveRoom net streams.rows delays
-good_have_room net streams delays fits prios (c, good) settled a p inside prio port =
+good_have_room net streams delays fits prios (c, good, ranked) settled a p inside prio port =
     let v = good.values in
-    let size = sizes_le net streams.rows delays v (ArcsWithin-fits net streams fits) prios good.good v.rank good.good.rank_order settled a p inside prio port in
+    let size = sizes_le net streams.rows delays v (ArcsWithin-fits net streams fits) prios good.good v.rank (ranks_rise net streams c good fits prios ranked) settled a p inside prio port in
     let ring = good.good.ring a p inside prio port in
     omega (arith, size, ring)
 

@@ -10,7 +10,7 @@ use Rattle.pre_base.specs.declared.numbers.ArcId.{ArcId}
 use Rattle.pre_topo.specs.declared.network.Network.{Network}
 use Rattle.pre_streams.specs.declared.rows.Row.{Row}
 use Rattle.pre_bound.specs.Solutions.{least_growth}
-use Rattle.pre_bound.specs.Uses.{TakesAt, hop_of, takes, is_on, has_port, rate_of, burst_of, cost_at}
+use Rattle.pre_bound.specs.Uses.{TakesAt, hop_of, takes, is_on, has_arc, has_port, rate_of, burst_of, cost_at}
 use Rattle.pre_bound.specs.Along.{Delays, burst_at}
 
 -- the arcs that are taken at places of a list
@@ -78,6 +78,19 @@ pub has_port-from : (rows : List Row) (r : Row) (arc j : ℕ) → Contains rows 
 has_port-from rows r arc j listed express at =
     let on : is_on arc r.prio (r.prio + 1) r ≡ true = is_on-from arc r.prio (r.prio + 1) r (record { express = express; from = omega arith; below = omega arith; takes = takes-from r j arc at }) in
     list_any_at (is_on arc r.prio (r.prio + 1)) rows listed.0 r listed.1 (ap (is_on arc r.prio (r.prio + 1)) listed.2 ∙ on)
+
+pub has_arc-from : (rows : List Row) (r : Row) (arc j : ℕ) → Contains rows r → is_some r.curve ≡ true → r.prio < 8 → TakesAt r j arc → has_arc rows arc ≡ true
+has_arc-from rows r arc j listed express low at =
+    let on : is_on arc 0 8 r ≡ true = is_on-from arc 0 8 r (record { express = express; from = omega arith; below = low; takes = takes-from r j arc at }) in
+    list_any_at (is_on arc 0 8) rows listed.0 r listed.1 (ap (is_on arc 0 8) listed.2 ∙ on)
+
+-- the arc of a port is one that a stream uses
+pub has_arc-from_port : (rows : List Row) (arc prio : ℕ) → prio < 8 → has_port rows arc prio ≡ true → has_arc rows arc ≡ true
+has_arc-from_port rows arc prio low port =
+    let some = Any-from_list_any (is_on arc prio (prio + 1)) rows port in
+    let on = OnArc-from arc prio (prio + 1) some.1 some.4 in
+    let wider : is_on arc 0 8 some.1 ≡ true = is_on-from arc 0 8 some.1 (record { express = on.express; from = omega arith; below = omega (arith, on.below); takes = on.takes }) in
+    list_any_at (is_on arc 0 8) rows some.0 some.1 some.2 (ap (is_on arc 0 8) some.3 ∙ wider)
 
 -- the burst one hop on
 pub burst_at-suc : (net : Network) (delays : Delays) (r : Row) (j a : ℕ) → TakesAt r j a → burst_at net delays r (j + 1) ≡ least_growth (burst_at net delays r j) (rate_of r) (delays a r.prio) (cost_at net a)

@@ -1,12 +1,13 @@
 -- Settled delays give good numbers.
-use Rattle.std.proofs.Common.{◌≡◌, ℕ, suc, ◌+◌, ◌*◌, ◌<◌, ◌≤◌, max, true, List, Some, refl, sym, ◌∙◌, ap, subst, arith, length}
+use Rattle.std.proofs.Common.{◌≡◌, ℕ, suc, ◌+◌, ◌*◌, ◌<◌, ◌≤◌, max, true, List, Some, refl, sym, ◌∙◌, ap, subst, arith, length, if◌then◌else◌}
 use Rattle.std.specs.Prelude.{slice_get, Contains, filter}
 use Rattle.std.specs.Option.{option_map_or}
 use Rattle.std.proofs.Math.Nat.{mul-le-mul_left, le-max_left, le-max_right}
+use Rattle.pre_base.specs.declared.limits.TheConstants.{OVERHEAD}
 use Rattle.pre_topo.specs.declared.network.Network.{Network}
 use Rattle.pre_streams.specs.declared.rows.Row.{Row}
 use Rattle.pre_bound.specs.Solutions.{CoversDelay, CoversGrowth, CoversQueue}
-use Rattle.pre_bound.specs.Uses.{TakesAt, hop_of, is_on, rate_of, cost_at, preemptable_at, Follows, rates_on}
+use Rattle.pre_bound.specs.Uses.{TakesAt, hop_of, is_on, rate_of, cost_at, preemptable_at, largest_at, largest_used, Follows, rates_on}
 use Rattle.pre_bound.specs.Along.{Delays, burst_at, burst_on, bursts_on, route_ticks, least_block, least_work, rate_above, port_delay, port_size}
 use Rattle.pre_bound.specs.Values.{Values}
 use Rattle.pre_bound.specs.Clauses.{certified_bursts, Load, Growth}
@@ -37,19 +38,19 @@ module _ (net : Network) (rows : List Row) (rank : ℕ → ℕ) (delays : Delays
 
   frame_le : (a p : ℕ) → cost_at net a * 84 ≤ least_block net rows a p
   frame_le a p =
-      let one = le-max_left 84 (preemptable_at net a) in
-      let two = first-le-greatest (λ r. r.max + 20) (max 84 (preemptable_at net a)) (filter (is_on a 0 p) rows) in
+      let one = le-max_left 84 (preemptable_at net a (largest_used net rows a)) in
+      let two = first-le-greatest (λ r. r.max + OVERHEAD) (max 84 (preemptable_at net a (largest_used net rows a))) (filter (is_on a 0 p) rows) in
       mul-le-mul_left (cost_at net a) (omega (arith, one, two))
 
-  preemptable_le : (a p : ℕ) → cost_at net a * preemptable_at net a ≤ least_block net rows a p
+  preemptable_le : (a p : ℕ) → cost_at net a * preemptable_at net a (largest_used net rows a) ≤ least_block net rows a p
   preemptable_le a p =
-      let one = le-max_right 84 (preemptable_at net a) in
-      let two = first-le-greatest (λ r. r.max + 20) (max 84 (preemptable_at net a)) (filter (is_on a 0 p) rows) in
+      let one = le-max_right 84 (preemptable_at net a (largest_used net rows a)) in
+      let two = first-le-greatest (λ r. r.max + OVERHEAD) (max 84 (preemptable_at net a (largest_used net rows a))) (filter (is_on a 0 p) rows) in
       mul-le-mul_left (cost_at net a) (omega (arith, one, two))
 
-  lower_le : (a p : ℕ) (r : Row) → Contains rows r → is_on a 0 p r ≡ true → cost_at net a * (r.max + 20) ≤ least_block net rows a p
+  lower_le : (a p : ℕ) (r : Row) → Contains rows r → is_on a 0 p r ≡ true → cost_at net a * (r.max + OVERHEAD) ≤ least_block net rows a p
   lower_le a p r listed on =
-      mul-le-mul_left (cost_at net a) (each-le-greatest (λ x. x.max + 20) (is_on a 0 p) (max 84 (preemptable_at net a)) rows listed.0 r listed.1 listed.2 on)
+      mul-le-mul_left (cost_at net a) (each-le-greatest (λ x. x.max + OVERHEAD) (is_on a 0 p) (max 84 (preemptable_at net a (largest_used net rows a))) rows listed.0 r listed.1 listed.2 on)
 
   -- the higher priorities take less than all of the arc's time
   rate_fits : (a p : ℕ) → Load net rows a → cost_at net a * rate_above rows a p < 1_000_000
@@ -66,16 +67,15 @@ module _ (net : Network) (rows : List Row) (rank : ℕ → ℕ) (delays : Delays
       subst (λ b. CoversGrowth b (rate_of r) (delays arc r.prio) (cost_at net arc) (option_map_or (λ x. burst_at net delays x (hop + 1)) (slice_get rows stream) 0)) (sym one)
       (subst (λ b. CoversGrowth (burst_at net delays r hop) (rate_of r) (delays arc r.prio) (cost_at net arc) b) (sym two) covers)
 
-  rank_order : ArcsWithin net rows → AreRanks net rows rank → (arc next : ℕ) → Follows rows arc next → rank arc < rank next
+  pub rank_order : ArcsWithin net rows → AreRanks net rows rank → (arc next : ℕ) → Follows rows arc next → rank arc < rank next
   rank_order within ranks arc next f =
       let first = within f.stream f.listed f.hop arc f.here in
       let second = within f.stream f.listed (f.hop + 1) next f.behind in
       let longer = (ranks next second).longest (suc (rank arc)) (arc, f, (ranks arc first).chain) in
       omega (arith, longer)
 
-  pub settled_are_good : ArcsWithin net rows → AreRanks net rows rank → ((arc : ℕ) → arc < length net.arcs → Load net rows arc) → Settled net rows delays → HaveRoom net rows delays → AreGood net rows (values_over net rows rank delays)
-  settled_are_good within ranks load settled room = record {
-    rank_order = rank_order within ranks;
+  pub settled_are_good : ((arc : ℕ) → arc < length net.arcs → Load net rows arc) → Settled net rows delays → HaveRoom net rows delays → AreGood net rows (values_over net rows rank delays)
+  settled_are_good load settled room = record {
     load = load;
     first_burst = λ stream r is. let eq = burst_of_row stream r 0 is.row in omega (arith, eq);
     block = λ a p inside prio port. record { frame = frame_le a p; lower = lower_le a p; preemptable = preemptable_le a p };
@@ -94,4 +94,5 @@ module _ (net : Network) (rows : List Row) (rank : ℕ → ℕ) (delays : Delays
     bound = λ stream r is.
         let eq = ap (λ o. option_map_or (λ x. route_ticks net (λ a. delays a x.prio) x.arcs) o 0) is.row in
         omega (arith, eq);
+    largest = λ a inside used flow. let eq : largest_used net rows a ≡ largest_at net a = ap (λ b. if b then largest_at net a else 0) flow in omega (arith, eq);
   }

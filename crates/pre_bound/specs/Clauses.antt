@@ -1,10 +1,11 @@
--- The ten clauses of a good certificate, each at one row.
+-- The eleven clauses of a good certificate, each at one row.
 use Rattle.std.specs.Prelude.{◌≡◌, ℕ, ◌+◌, ◌*◌, ◌/◌, ◌<◌, ◌≤◌, List, IsTrue, Contains, sum_by, filter}
 use Rattle.std.specs.List.{enumerate_from}
+use Rattle.pre_base.specs.declared.limits.TheConstants.{OVERHEAD}
 use Rattle.pre_topo.specs.declared.network.Network.{Network}
 use Rattle.pre_streams.specs.declared.rows.Row.{Row}
 use Rattle.pre_bound.specs.Solutions.{CoversDelay, CoversGrowth, CoversQueue}
-use Rattle.pre_bound.specs.Uses.{rate_of, burst_of, hop_of, is_on, rates_on, cost_at, ring_at, preemptable_at}
+use Rattle.pre_bound.specs.Uses.{rate_of, burst_of, hop_of, is_on, rates_on, cost_at, ring_at, preemptable_at, has_flow, largest_at}
 use Rattle.pre_bound.specs.Along.{route_ticks}
 use Rattle.pre_bound.specs.Values.{Values}
 
@@ -23,8 +24,8 @@ FirstBurst v stream r = burst_of r ≤ v.burst stream 0
 -- block, at a port: it is as long as each thing that can hold the arc
 pub record Block (net : Network) (rows : List Row) (v : Values) (arc prio : ℕ) : Type 0 where
   pub frame : cost_at net arc * 84 ≤ v.block arc prio
-  pub lower : (r : Row) → Contains rows r → IsTrue (is_on arc 0 prio r) → cost_at net arc * (r.max + 20) ≤ v.block arc prio
-  pub preemptable : cost_at net arc * preemptable_at net arc ≤ v.block arc prio
+  pub lower : (r : Row) → Contains rows r → IsTrue (is_on arc 0 prio r) → cost_at net arc * (r.max + OVERHEAD) ≤ v.block arc prio
+  pub preemptable : cost_at net arc * preemptable_at net arc (v.largest arc) ≤ v.block arc prio
 
 -- the sum of the certified bursts at the arc of its streams with priorities from low up to below high
 abbrev pub certified_bursts : Values → ℕ → ℕ → ℕ → List Row → ℕ
@@ -56,3 +57,7 @@ Ring net v arc prio = v.size arc prio / 84 ≤ ring_at net arc prio
 -- bound, at a stream: it covers the hops of its route
 abbrev pub Bound : Network → Values → ℕ → Row → Type 0
 Bound net v stream r = route_ticks net (λ a. v.delay a r.prio) r.arcs ≤ v.bound stream
+
+-- largest, at an arc: where a flow uses it, it is at least the greatest preemptable frame that the arc carries
+abbrev pub Largest : Network → List Row → Values → ℕ → Type 0
+Largest net rows v arc = IsTrue (has_flow rows arc) → largest_at net arc ≤ v.largest arc

@@ -1,4 +1,4 @@
--- What a good certificate leaves no room for, a port that passes the limit and a ring that is too small; and that settled
+-- What a good certificate with ranks leaves no room for, a port that passes the limit and a ring that is too small; and that settled
 -- delays are the same whatever settles them.
 use Rattle.std.specs.Prelude.{◌≡◌, ℕ, ◌<◌, ◌≤◌, List, length, false}
 use Rattle.pre_topo.specs.declared.network.Network.{Network}
@@ -27,7 +27,7 @@ pub record ValuesWithin (net : Network) (rows : List Row) (v : Values) : Type 0 
 abbrev pub SettledBelow : Network → List Row → (ℕ → ℕ) → Delays → ℕ → Type 0
 SettledBelow net rows rank delays arc = AtPorts net rows (λ before prio. rank before < rank arc → delays before prio ≡ port_delay net rows delays before prio)
 
--- where there is a good certificate, no port passes the limit over delays settled before it, by any ranks that rise
+-- where there is a good certificate with ranks, no port passes the limit over delays settled before it, by any ranks that rise
 abbrev pub GoodPassNowhere : Type 0
 GoodPassNowhere = (net : Network) (streams : Streams) (rank : ℕ → ℕ) (delays : Delays)
     → Fits net streams → PriosBelow streams.rows → Rise streams.rows rank → HasGood net streams

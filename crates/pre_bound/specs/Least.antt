@@ -1,5 +1,5 @@
 -- The least good certificate.
-use Rattle.std.specs.Prelude.{ℕ, ◌≤◌, List, map, slice_index}
+use Rattle.std.specs.Prelude.{◌≡◌, ℕ, ◌≤◌, List, map, slice_index, is_some, unwrap_or}
 use Rattle.pre_topo.specs.declared.network.Network.{Network}
 use Rattle.pre_streams.specs.declared.rows.Streams.{Streams}
 use Rattle.pre_bound.specs.declared.rows.PortRow.{PortRow}
@@ -16,7 +16,8 @@ PortsAtMost number c other = AtMost (map number c.ports) (map number other.ports
 
 -- each number of a certificate is at most the number at the same place of the other
 pub record NumbersAtMost (c other : Certificate) : Type 0 where
-  pub ranks : AtMost (map (λ row. row.1) c.ranks) (map (λ row. row.1) other.ranks)
+  pub ranks : AtMost (map (λ row. unwrap_or row.rank 0) c.arcs) (map (λ row. unwrap_or row.rank 0) other.arcs)
+  pub largest : AtMost (map (λ row. row.largest) c.arcs) (map (λ row. row.largest) other.arcs)
   pub blocks : PortsAtMost (λ row. row.block) c other
   pub works : PortsAtMost (λ row. row.work) c other
   pub rates : PortsAtMost (λ row. row.rate) c other
@@ -25,7 +26,12 @@ pub record NumbersAtMost (c other : Certificate) : Type 0 where
   pub bursts : AtMost (map (λ row. row.burst) c.hops) (map (λ row. row.burst) other.hops)
   pub bounds : AtMost (map (λ row. row.1) c.bounds) (map (λ row. row.1) other.bounds)
 
--- a good certificate, each number of which is at most that of every good certificate of the network and streams
+-- the one has ranks exactly where the other has them
+abbrev pub RankedAlike : Certificate → Certificate → Type 0
+RankedAlike c other = map (λ row. is_some row.rank) c.arcs ≡ map (λ row. is_some row.rank) other.arcs
+
+-- a good certificate, each number of which is at most that of every good certificate of the network and streams that has
+-- ranks exactly where it has them
 pub record Least (net : Network) (streams : Streams) (c : Certificate) : Type 0 where
   pub good : GoodCertificate net streams c
-  pub least : (other : Certificate) → GoodCertificate net streams other → NumbersAtMost c other
+  pub least : (other : Certificate) → GoodCertificate net streams other → RankedAlike c other → NumbersAtMost c other

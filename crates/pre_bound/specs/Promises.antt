@@ -11,33 +11,33 @@ use Rattle.pre_bound.specs.Along.{Delays, least_block, burst_at}
 use Rattle.pre_bound.specs.Values.{Values}
 use Rattle.pre_bound.specs.Clauses.{Load, certified_bursts}
 use Rattle.pre_bound.specs.Chains.{AreRanks}
-use Rattle.pre_bound.specs.Good.{AreGood, AtPorts, AtStreams}
+use Rattle.pre_bound.specs.Good.{AreGood, AreInOrder, AtPorts, AtStreams}
 use Rattle.pre_bound.specs.Settled.{PriosBelow, Settled, HaveRoom, ValuesAtMost, values_over}
-use Rattle.pre_bound.specs.Listed.{Says}
+use Rattle.pre_bound.specs.Listed.{Says, HasRanks}
 use Rattle.pre_bound.specs.Least.{Least}
 use Rattle.pre_bound.specs.Limits.{limit}
 use Rattle.pre_bound.specs.Passing.{least_port, passes, ticks_before}
 use Rattle.pre_bound.specs.Order.{Rise, SameBelow}
 
--- where no arc is overloaded and the rings have room, ranks and settled delays give good numbers
+-- where no arc is overloaded and the rings have room, ranks and settled delays give good numbers, and the ranks are in order
 abbrev pub SettledAreGood : Type 0
 SettledAreGood = (net : Network) (streams : Streams) (rank : ℕ → ℕ) (delays : Delays)
     → Fits net streams → AreRanks net streams.rows rank → ((arc : ℕ) → arc < length net.arcs → Load net streams.rows arc)
     → Settled net streams.rows delays → HaveRoom net streams.rows delays
-    → AreGood net streams.rows (values_over net streams.rows rank delays)
+    → AreGood net streams.rows (values_over net streams.rows rank delays) × AreInOrder streams.rows (values_over net streams.rows rank delays)
 
--- and these are at most all good numbers
+-- and these are at most all good numbers with ranks in order
 abbrev pub SettledAreLeast : Type 0
 SettledAreLeast = (net : Network) (streams : Streams) (rank : ℕ → ℕ) (delays : Delays) (v : Values)
     → Fits net streams → PriosBelow streams.rows → AreRanks net streams.rows rank → Settled net streams.rows delays
-    → AreGood net streams.rows v → ValuesAtMost net streams.rows (values_over net streams.rows rank delays) v
+    → AreGood net streams.rows v → AreInOrder streams.rows v → ValuesAtMost net streams.rows (values_over net streams.rows rank delays) v
 
--- so a certificate that says them is the least good one
+-- so a certificate that says them is the least good one, and has ranks
 abbrev pub SettledIsLeast : Type 0
 SettledIsLeast = (net : Network) (streams : Streams) (rank : ℕ → ℕ) (delays : Delays) (c : Certificate)
     → Fits net streams → PriosBelow streams.rows → AreRanks net streams.rows rank → ((arc : ℕ) → arc < length net.arcs → Load net streams.rows arc)
     → Settled net streams.rows delays → HaveRoom net streams.rows delays
-    → Says net streams.rows c (values_over net streams.rows rank delays) → Least net streams c
+    → Says net streams.rows c (values_over net streams.rows rank delays) → Least net streams c × HasRanks c
 
 -- Each number of good ones is at least the least solution over the numbers before it: a delay over its port's block and work,
 -- a size over the bursts and the delay there, a burst over the one a hop before.

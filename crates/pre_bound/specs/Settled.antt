@@ -1,12 +1,12 @@
 -- Delays that are the least ones at every port, and the numbers that they give.
-use Rattle.std.specs.Prelude.{◌≡◌, ℕ, ◌/◌, ◌<◌, ◌≤◌, List, length, slice_get, Contains}
+use Rattle.std.specs.Prelude.{◌≡◌, ℕ, ◌/◌, ◌<◌, ◌≤◌, true, List, length, slice_get, Contains}
 use Rattle.std.specs.Option.{option_map_or}
 use Rattle.pre_topo.specs.declared.network.Network.{Network}
 use Rattle.pre_streams.specs.declared.rows.Row.{Row}
-use Rattle.pre_bound.specs.Uses.{ring_at}
+use Rattle.pre_bound.specs.Uses.{ring_at, largest_used}
 use Rattle.pre_bound.specs.Along.{Delays, burst_at, route_ticks, least_block, least_work, rate_above, port_delay, port_size}
 use Rattle.pre_bound.specs.Values.{Values}
-use Rattle.pre_bound.specs.Good.{AtPorts, IsStream}
+use Rattle.pre_bound.specs.Good.{AtArcs, AtPorts, IsStream}
 
 -- each port's delay is the least one over the delays at the hops before it
 abbrev pub Settled : Network → List Row → Delays → Type 0
@@ -15,7 +15,9 @@ Settled net rows delays = AtPorts net rows (λ arc prio. delays arc prio ≡ por
 -- the numbers that ranks and delays give
 abbrev pub values_over : Network → List Row → (ℕ → ℕ) → Delays → Values
 values_over net rows rank delays = record {
+  ranked = true;
   rank = rank;
+  largest = largest_used net rows;
   block = least_block net rows;
   work = least_work net rows delays;
   rate = rate_above rows;
@@ -36,6 +38,7 @@ HaveRoom net rows delays = AtPorts net rows (λ arc prio. port_size net rows del
 -- each number is at most the other one, at the arcs, ports, hops and streams that a certificate has rows for
 pub record ValuesAtMost (net : Network) (rows : List Row) (v w : Values) : Type 0 where
   pub rank : (arc : ℕ) → arc < length net.arcs → v.rank arc ≤ w.rank arc
+  pub largest : AtArcs net rows (λ arc. v.largest arc ≤ w.largest arc)
   pub block : AtPorts net rows (λ arc prio. v.block arc prio ≤ w.block arc prio)
   pub work : AtPorts net rows (λ arc prio. v.work arc prio ≤ w.work arc prio)
   pub rate : AtPorts net rows (λ arc prio. v.rate arc prio ≤ w.rate arc prio)

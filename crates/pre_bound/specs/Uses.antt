@@ -1,7 +1,8 @@
 -- Which streams use an arc, with which priorities, and what the arc costs them.
-use Rattle.std.specs.Prelude.{◌≡◌, ℕ, ◌+◌, ◌*◌, ◌==◌, nat_lt, nat_le, ◌&&◌, Bool, true, false, List, Some, slice_get, slice_index, sum_by, filter, is_some, if◌then◌else◌, max, fold, Contains, IsSome}
+use Rattle.std.specs.Prelude.{◌≡◌, ℕ, ◌+◌, ◌*◌, ◌==◌, nat_lt, nat_le, ◌&&◌, Bool, true, false, not, List, Some, slice_get, slice_index, sum_by, filter, is_some, if◌then◌else◌, max, min, fold, Contains, IsSome}
 use Rattle.std.specs.Option.{option_map, option_map_or}
 use Rattle.std.specs.List.{list_any, position_or_len}
+use Rattle.pre_base.specs.declared.limits.TheConstants.{OVERHEAD}
 use Rattle.pre_topo.specs.declared.network.Network.{Network}
 use Rattle.pre_topo.specs.declared.arcs.Arc.{Arc}
 use Rattle.pre_topo.specs.declared.arcs.Mode.{Mode}
@@ -64,19 +65,36 @@ cuts Off policy = false
 cuts Negotiate Quiet = true
 cuts Negotiate Pass = false
 
--- The octets for which preemptable traffic can hold the arc: a fragment that can't be cut yet, with the octets that
--- can't be cut off and a continuation's overhead, or a whole greatest frame.
-abbrev pub preemptable_octets : Arc → ℕ
-preemptable_octets a = if cuts a.mode a.policy then 64 * (1 + a.add_frag) + 79 else 1542
+-- a fragment that can't be cut yet, with the octets that can't be cut off and a continuation's overhead
+abbrev pub fragment_octets : Arc → ℕ
+fragment_octets a = 64 * (1 + a.add_frag) + 79
+
+-- The octets for which preemptable frames of up to so many octets can hold the arc: a whole one with its preamble and gap,
+-- and where they are cut no more than a fragment that can't be. Where there are no frames it is none.
+abbrev pub preemptable_octets : Arc → ℕ → ℕ
+preemptable_octets a largest =
+    if largest == 0 then 0 else if cuts a.mode a.policy then min (largest + OVERHEAD) (fragment_octets a) else largest + OVERHEAD
 
 -- the same on the arc of this number
-abbrev pub preemptable_at : Network → ℕ → ℕ
-preemptable_at net arc = option_map_or preemptable_octets (slice_get net.arcs arc) 0
+abbrev pub preemptable_at : Network → ℕ → ℕ → ℕ
+preemptable_at net arc largest = option_map_or (λ a. preemptable_octets a largest) (slice_get net.arcs arc) 0
+
+-- a flow's route takes the arc
+abbrev pub has_flow : List Row → ℕ → Bool
+has_flow rows arc = list_any (λ r. not (is_stream r) && takes arc r) rows
+
+-- the greatest preemptable frame that the arc of this number carries
+abbrev pub largest_at : Network → ℕ → ℕ
+largest_at net arc = option_map_or (λ a. a.largest) (slice_get net.arcs arc) 0
+
+-- and where no flow uses it, none
+abbrev pub largest_used : Network → List Row → ℕ → ℕ
+largest_used net rows arc = if has_flow rows arc then largest_at net arc else 0
 
 -- The octets of the longest one thing that can hold the arc before a priority: a least frame, what preemptable traffic can,
 -- or a greatest frame of a stream with a lower priority.
 abbrev pub block_octets : Network → List Row → ℕ → ℕ → ℕ
-block_octets net rows arc prio = fold (λ most r. max most (r.max + 20)) (max 84 (preemptable_at net arc)) (filter (is_on arc 0 prio) rows)
+block_octets net rows arc prio = fold (λ most r. max most (r.max + OVERHEAD)) (max 84 (preemptable_at net arc (largest_used net rows arc))) (filter (is_on arc 0 prio) rows)
 
 -- a stream's route takes the one arc and then the other
 pub record Follows (rows : List Row) (arc next : ℕ) : Type 0 where

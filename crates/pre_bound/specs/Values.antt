@@ -1,9 +1,12 @@
 -- The numbers of a certificate, by what they are numbers of.
-use Rattle.std.specs.Prelude.{ℕ}
+use Rattle.std.specs.Prelude.{ℕ, Bool}
 
 pub record Values : Type 0 where
-  -- of an arc
+  -- whether arcs have ranks
+  pub ranked : Bool
+  -- of an arc: its rank, and octets
   pub rank : ℕ → ℕ
+  pub largest : ℕ → ℕ
   -- of an arc and a priority: in ticks, ticks, octets in 1,000,000 ticks, ticks and octets
   pub block : ℕ → ℕ → ℕ
   pub work : ℕ → ℕ → ℕ

@@ -1,20 +1,20 @@
 ghost use Rattle.pre_bound.specs.Limits.{IsWithin};
 
-use crate::{HopRow, PortRow};
-use pre_base::{ArcId, Items, StreamId};
+use crate::{ArcRow, HopRow, PortRow};
+use pre_base::{Items, StreamId};
 
 /// What a planner certifies of a network's express streams. Each number is at most 10^12.
 #[derive(Debug, Drop)]
 pub struct Certificate {
-    /// A rank for each arc that a stream uses, by arc: along each route they rise.
-    pub ranks: Items<(ArcId, u64)>,
+    /// The arcs that streams use, by arc.
+    pub arcs: Items<ArcRow>,
     /// The ports, by arc, then priority.
     pub ports: Items<PortRow>,
     /// The hops, by stream, then along its route.
     pub hops: Items<HopRow>,
     /// For each stream the greatest ticks from a frame's send to its delivery.
     pub bounds: Items<(StreamId, u64)>,
-    pub ghost within: { IsWithin ranks ports hops bounds },
+    pub ghost within: { IsWithin arcs ports hops bounds },
 }
 
 impl Certificate {

@@ -11,7 +11,7 @@ pub fn least_solutions()
 {}
 
 /// Ranks that are longest chains, and delays each of which is the least one over the delays at the hops before it, give good
-/// numbers, which are at most those of every good certificate: a certificate that says them is the least one.
+/// numbers, which are at most those of every good certificate with ranks: a certificate that says them is the least one.
 pub fn settled_law()
     ensures good { SettledAreGood }
     ensures least { SettledAreLeast }

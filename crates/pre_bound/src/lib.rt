@@ -8,7 +8,7 @@ mod solutions;
 
 pub use certificate::Certificate;
 pub use laws::{completeness_law, good_law, least_solutions, limit_law, order_law, settled_law};
-pub use rows::{HopRow, PortRow};
+pub use rows::{ArcRow, HopRow, PortRow};
 pub use solutions::{grown, hop_delay, queue_size};
 
 #[cfg(test)]

@@ -1,5 +1,15 @@
 use pre_base::{ArcId, Prio, StreamId};
 
+/// What a certificate says of an arc that a stream uses.
+#[derive(Clone, Copy, Debug, PartialEq, Eq)]
+pub struct ArcRow {
+    pub arc: ArcId,
+    /// Along each route ranks rise. In one certificate each arc has a rank, or none has.
+    pub rank: Option<u64>,
+    /// The greatest preemptable frame that is counted with, in octets with its check; 0 where none is.
+    pub largest: u64,
+}
+
 /// What a certificate says of a port: of the streams of one priority on an arc.
 #[derive(Clone, Copy, Debug, PartialEq, Eq)]
 pub struct PortRow {

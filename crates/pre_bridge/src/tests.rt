@@ -42,6 +42,8 @@ fn arc(from: u16, to: u16) -> Arc
         policy: Policy::Quiet,
         add_frag: 0,
         rings: [64; 8],
+        express_from: 4,
+        largest: 1522,
     }
 }
 

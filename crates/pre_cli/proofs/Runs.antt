@@ -11,14 +11,14 @@ use Rattle.pre_history.proofs.WrittenEvents.{IsWritten-of, AreWritten-of}
 use Rattle.pre_trace.specs.Text.{line, text}
 use Rattle.pre_trace.specs.Watching.{HoldsText, HoldsTorn}
 use Rattle.pre_history.specs.Deliveries.{DeliversOnce}
-use Rattle.pre_history.specs.Legal.{Legal}
+use Rattle.pre_history.specs.Legal.{Legal, LegalUpTo}
 use Rattle.pre_sim.specs.declared.runs.Step.{Step}
 use Rattle.pre_sim.specs.declared.runs.Step.TheVariants.{More, Ended, Alias, Stopped, Memory}
 use Rattle.pre_sim.specs.Parts.{IsFrontOfLegal}
 use Rattle.pre_sim.specs.Telling.{TellsAll}
 use Rattle.pre_sim.specs.Views.{SimView, HasTold}
 use Rattle.pre_sim.specs.Steps.{StepTells}
-use Rattle.pre_cli.specs.Written.{TakesText, TakesTextFront}
+use Rattle.pre_cli.specs.Written.{TakesText, IsLegalSoFar, TakesTextFront}
 use Rattle.pre_cli.specs.Runs.{RunLeaves}
 
 text-append : (net : Network) (g h : History) → text net (g ++ h) ≡ text net g ++ text net h
@@ -29,18 +29,27 @@ text-append net (e ∷ g) h = ap (λ (l : List ℕ). line net e ++ l) (text-appe
 taken : (net : Network) (x y : Taken) (es : History) → TellsAll net (HoldsText net (Some x)) (HoldsText net (Some y)) es → y.octets ≡ x.octets ++ text net es
 taken net x y es told = told.1 x.octets [] (λ _. sym (append-nil x.octets)) (AreWritten-of net es told.0)
 
-module _ (w : Scenario) where
-  whole_text : (a b : Option Taken) → StillTells a b → (es : History) → TellsAll w.net (HoldsText w.net a) (HoldsText w.net b) es → Legal w es → DeliversOnce w es → WhereTold a b (TakesText w)
-  whole_text None None still es told legal once = tt
-  whole_text None (Some y) still es told legal once = absurd still
-  whole_text (Some x) None still es told legal once = absurd still
-  whole_text (Some x) (Some y) still es told legal once = (es, legal, once, told.0, taken w.net x y es told)
+-- legal histories deliver what was sent, once
+pub record DeliverOnce (w : Scenario) : Type 0 where
+  pub whole : (h : History) → Legal w h → DeliversOnce w h
+  pub so_far : (n : ℕ) (h : History) → LegalUpTo w n h → DeliversOnce w h
+
+delivers : (w : Scenario) → DeliverOnce w → (h : History) → IsLegalSoFar w h → DeliversOnce w h
+delivers w once h (inl legal) = once.whole h legal
+delivers w once h (inr (n, legal)) = once.so_far n h legal.0
+
+module _ (w : Scenario) (once : DeliverOnce w) where
+  whole_text : (a b : Option Taken) → StillTells a b → (es : History) → TellsAll w.net (HoldsText w.net a) (HoldsText w.net b) es → Legal w es → WhereTold a b (TakesText w)
+  whole_text None None still es told legal = tt
+  whole_text None (Some y) still es told legal = absurd still
+  whole_text (Some x) None still es told legal = absurd still
+  whole_text (Some x) (Some y) still es told legal = (es, legal, once.whole es legal, told.0, taken w.net x y es told)
 
   front_text : (a b : Option Taken) → StillTells a b → (es : History) → TellsAll w.net (HoldsText w.net a) (HoldsText w.net b) es → IsFrontOfLegal w es → WhereTold a b (TakesTextFront w)
   front_text None None still es told front = tt
   front_text None (Some y) still es told front = absurd still
   front_text (Some x) None still es told front = absurd still
-  front_text (Some x) (Some y) still es told (more, so_far) = (es ++ more, text w.net more, so_far, (text w.net es, text-append w.net es more, taken w.net x y es told))
+  front_text (Some x) (Some y) still es told (more, so_far) = (es ++ more, text w.net more, so_far, delivers w once (es ++ more) so_far, (text w.net es, text-append w.net es more, taken w.net x y es told))
 
   torn_text : (a b : Option Taken) → StillTells a b → (es : History) (e : PlainEvent) → AreWritten w.net es → IsWritten w.net e
       → ((base : List ℕ) (h : History) → HoldsText w.net a base h → HoldsTorn w.net b base (h ++ es) e) → IsFrontOfLegal w (es ++ e ∷ []) → WhereTold a b (TakesTextFront w)
@@ -54,6 +63,7 @@ module _ (w : Scenario) where
         (es ++ e ∷ []) ++ more,
         rest ++ text w.net more,
         so_far,
+        delivers w once ((es ++ e ∷ []) ++ more) so_far,
         (
           text w.net es ++ begun,
           text-append w.net (es ++ e ∷ []) more
@@ -66,12 +76,12 @@ module _ (w : Scenario) where
       whole : (p q r s : List ℕ) → (p ++ (q ++ r)) ++ s ≡ (p ++ q) ++ (r ++ s)
       whole p q r s = ap (λ (l : List ℕ). l ++ s) (sym (append_assoc p q r)) ∙ append_assoc (p ++ q) r s
 
-  module _ (s u : SimView) (same : s.run ≡ w) (begun : HasTold s []) (once : (h : History) → Legal w h → DeliversOnce w h) where
+  module _ (s u : SimView) (same : s.run ≡ w) (begun : HasTold s []) where
     pub run_leaves : (step : Step) (a b : Option Taken) → StillTells a b → (step ≡ More → ⊥) → StepTells s step u (HoldsText w.net a) (HoldsText w.net b) (HoldsTorn w.net b) → RunLeaves w step a b
     run_leaves More a b still last told = absurd (last refl)
     run_leaves Ended a b still last (es, told, ends) =
         let legal : Legal w es = subst (λ (v : Scenario). Legal v es) same (ends [] begun) in
-        whole_text a b still es (subst (λ (v : Scenario). TellsAll v.net (HoldsText w.net a) (HoldsText w.net b) es) same told) legal (once es legal)
+        whole_text a b still es (subst (λ (v : Scenario). TellsAll v.net (HoldsText w.net a) (HoldsText w.net b) es) same told) legal
     run_leaves (Alias arc ordinal) a b still last told = told
     run_leaves Stopped a b still last (es, e, all, one, torn, front) =
         torn_text a b still es e (subst (λ (v : Scenario). AreWritten v.net es) same all) (subst (λ (v : Scenario). IsWritten v.net e) same one) torn (subst (λ (v : Scenario). IsFrontOfLegal v (es ++ e ∷ [])) same (front [] begun))
@@ -79,6 +89,6 @@ module _ (w : Scenario) where
         front_text a b still es (subst (λ (v : Scenario). TellsAll v.net (HoldsText w.net a) (HoldsText w.net b) es) same told) (subst (λ (v : Scenario). IsFrontOfLegal v es) same (front [] begun))
 
 -- nothing was told yet
-pub nothing_left : (w : Scenario) (a : Option Taken) → WhereTold a a (TakesTextFront w)
-nothing_left w None = tt
-nothing_left w (Some x) = ([], [], inr (0, (refl, λ a k d lt. absurd (omega (arith, lt)))), ([], refl, sym (append-nil x.octets)))
+pub nothing_left : (w : Scenario) → DeliverOnce w → (a : Option Taken) → WhereTold a a (TakesTextFront w)
+nothing_left w once None = tt
+nothing_left w once (Some x) = ([], [], inr (0, (refl, λ a k d lt. absurd (omega (arith, lt)))), once.so_far 0 [] refl, ([], refl, sym (append-nil x.octets)))

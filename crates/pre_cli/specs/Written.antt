@@ -21,6 +21,7 @@ TakesTrace w old new = TakesText w old new × (new.flushed ≡ true)
 abbrev pub IsLegalSoFar : Scenario → History → Type 0
 IsLegalSoFar w h = Legal w h ⊎ ((n : ℕ) × LegalBefore w h n)
 
--- a front of the text of such a history
+-- A front of the text of such a history. Each delivery so far has the octets of a frame that was sent, and no frame is
+-- delivered twice.
 abbrev pub TakesTextFront : Scenario → Taken → Taken → Type 0
-TakesTextFront w old new = (h : History) × (rest : List ℕ) × IsLegalSoFar w h × TakesBut rest (text w.net h) old new
+TakesTextFront w old new = (h : History) × (rest : List ℕ) × IsLegalSoFar w h × DeliversOnce w h × TakesBut rest (text w.net h) old new

@@ -3,13 +3,14 @@ use Rattle.std.proofs.Common.{◌≡◌, ◌≢◌, ℕ, zero, suc, ◌+◌, ◌
 use Rattle.std.specs.List.{range_with_len}
 use Rattle.std.specs.Int.{byte_at, bytes_high_first}
 use Rattle.std.proofs.lemmas.List.Elements.{All-cons, All-nil, All-append, All-map}
+use Rattle.pre_base.specs.declared.limits.TheConstants.{GREATEST_FRAME}
 use Rattle.pre_crc.specs.Checks.{Fcs}
 use Rattle.pre_frame.specs.Layout.{tag_type, script_type, address_of, tag_control, payload_of, frame_of}
 use Rattle.pre_frame.specs.FrameFields.{IsFrame}
 use Rattle.pre_frame.specs.Built.{fields_built, frame_number}
 use Rattle.pre_frame.specs.FrameFacts.{length-frame_of}
 
-pub IsFrame-built : (destination source prio vid number size : ℕ) → prio < 8 → vid < 4096 → 64 ≤ size → size ≤ 1522
+pub IsFrame-built : (destination source prio vid number size : ℕ) → prio < 8 → vid < 4096 → 64 ≤ size → size ≤ GREATEST_FRAME
     → IsFrame (fields_built destination source prio vid number size) (frame_of destination source prio vid number size)
 unfolding frame_of
 IsFrame-built destination source prio vid number size hp hv least most =

@@ -2,17 +2,12 @@
 use Rattle.std.specs.Prelude.{ℕ, ◌+◌, ◌-◌, ◌*◌, ◌%◌, ◌^◌, ◌≤◌, Bool, false, cond, List, ◌∷◌, ◌++◌, map}
 use Rattle.std.specs.List.{range_with_len}
 use Rattle.std.specs.Int.{bytes_high_first}
+use Rattle.pre_base.specs.declared.limits.TheConstants.{LEAST_FRAME, GREATEST_FRAME}
 use Rattle.pre_crc.specs.Checks.{Fcs}
 
--- octets of a frame with its check, at least and at most: with a tag, as IEEE 802.3 clause 3.2.7 allows
-abbrev pub least_size : ℕ
-least_size = 64
-
-abbrev pub greatest_size : ℕ
-greatest_size = 1522
-
+-- octets of a frame with its check
 abbrev pub IsFrameSize : ℕ → Type 0
-IsFrameSize size = (least_size ≤ size) × (size ≤ greatest_size)
+IsFrameSize size = (LEAST_FRAME ≤ size) × (size ≤ GREATEST_FRAME)
 
 -- the type that says that a VLAN tag follows
 abbrev pub tag_type : ℕ

@@ -9,7 +9,7 @@ use pre_crc::fcs;
 // Octets before the payload, and of the check after it.
 const HEADER: usize = 18;
 
-const CHECK: usize = 4;
+const CHECK: usize = pre_base::CHECK as usize;
 
 /// Writes the frame of this number, `size` octets with its check, at the front of `into`, and answers
 /// `size`. Where `into` is shorter there is no room, and it stays as it was.

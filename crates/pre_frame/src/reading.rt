@@ -1,17 +1,12 @@
 ghost use Rattle.std.specs.Prelude.{◌≡◌, ◌↔◌, ◌+◌, ◌*◌, ◌/◌, ◌%◌, ◌^◌, ◌<◌, ◌≤◌, ◌==◌, Err, IfOk, IsOkAnd, length};
-ghost use Rattle.pre_frame.specs.Layout.{least_size, greatest_size};
+ghost use Rattle.pre_base.specs.declared.limits.TheConstants.{LEAST_FRAME, GREATEST_FRAME};
 ghost use Rattle.pre_frame.specs.FrameFields.{Fields, HasFrameSize, EndsWithFcs, IsTagged, IsFrame, fields_at, number_at};
 ghost use Rattle.pre_frame.specs.Views.{fields_of};
 
 use byteorder::{BigEndian, ByteOrder};
-use pre_base::Prio;
+use pre_base::{GREATEST_FRAME, LEAST_FRAME, Prio};
 use pre_crc::fcs;
 use thiserror::Error;
-
-// Octets of a frame with its check, at least and at most.
-const LEAST_SIZE: usize = 64;
-
-const GREATEST_SIZE: usize = 1522;
 
 // The first two octets of a VLAN tag.
 const TAG: [u8; 2] = [0x81, 0x00];
@@ -43,8 +38,8 @@ pub enum FrameFault {
     /// Fewer than 64 octets.
     #[error("a frame has 64 octets at least")]
     Short,
-    /// More than 1522 octets.
-    #[error("a frame has 1522 octets at most")]
+    /// More than 2000 octets.
+    #[error("a frame has 2000 octets at most")]
     Long,
     /// The last four octets are not the frame check sequence of those before them.
     #[error("the last four octets are not the check of the others")]
@@ -60,15 +55,15 @@ pub fn read_frame(octets: &[u8]) -> Result<FrameView<'_>, FrameFault>
     ensures view { IfOk result (λ view. IsFrame (fields_of view) octets.now) }
     ensures every { (fields : Fields) → IsFrame fields octets.now → IsOkAnd result (λ view. fields_of view ≡ fields) }
 
-    ensures short { (result ≡ Err FrameFault.Short) ↔ (length octets.now < least_size) }
-    ensures long { (result ≡ Err FrameFault.Long) ↔ (greatest_size < length octets.now) }
+    ensures short { (result ≡ Err FrameFault.Short) ↔ (length octets.now < LEAST_FRAME) }
+    ensures long { (result ≡ Err FrameFault.Long) ↔ (GREATEST_FRAME < length octets.now) }
     ensures check { (result ≡ Err FrameFault.Check) ↔ (HasFrameSize octets.now × (¬ EndsWithFcs octets.now)) }
     ensures tag { (result ≡ Err FrameFault.Tag) ↔ (HasFrameSize octets.now × EndsWithFcs octets.now × (¬ IsTagged octets.now)) }
 {
-    if octets.len() < LEAST_SIZE {
+    if octets.len() < usize::from(LEAST_FRAME) {
         return Err(FrameFault::Short);
     }
-    if octets.len() > GREATEST_SIZE {
+    if octets.len() > usize::from(GREATEST_FRAME) {
         return Err(FrameFault::Long);
     }
     let (data, check) = octets.split_at(octets.len() - 4);

@@ -131,7 +131,7 @@ begins_so w past a t Item.lldp c direct right (on, wanted, is) = no_frame w past
 begins_so w past a t Item.rest c direct right (r, (first, more, run, ended, cut, left), is) = absurd (let none = ap (from_last (λ (p : Packet). is_start p.begin.kind)) (no_run w past a t right) in cc (none, run))
 begins_so w past a t Item.preemptable c direct right (f, k, (p, from, to, (behind, waits), above), as', is) =
     let front = at_front_of w past a p t f behind right waits in
-    let off : (arc w a).mode ≡ mode.Off = All-contains (λ x. (arc w x).mode ≡ mode.Off) (hops w f) a (direct.whole f front.known (subst (λ x. x < w.net.express_from) front.prio to)) front.arc in
+    let off : (arc w a).mode ≡ mode.Off = All-contains (λ x. (row w f).prio < (arc w x).express_from → (arc w x).mode ≡ mode.Off) (hops w f) a (direct.whole f front.known) front.arc (subst (λ x. x < (arc w a).express_from) front.prio to) in
     elim as' [
       | inl active ↦ absurd (off_never w past a t off active.0)
       | inr whole ↦ front_begins w past a p t f k c whole.2 is front

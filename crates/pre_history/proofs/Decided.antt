@@ -47,25 +47,24 @@ module _ (w : Scenario) (h : History) (a t : ℕ) where
       go (x ∷ xs) = inl (λ e. cc e)
 
   -- among the n priorities from the least express one on
-  express_among : (n : ℕ) → ((p : ℕ) × (w.net.express_from ≤ p) × (p < w.net.express_from + n) × (Waiting h a p t ≢ [])) ⊎ ((p : ℕ) → w.net.express_from ≤ p → p < w.net.express_from + n → Waiting h a p t ≡ [])
+  express_among : (n : ℕ) → ((p : ℕ) × ((arc w a).express_from ≤ p) × (p < (arc w a).express_from + n) × (Waiting h a p t ≢ [])) ⊎ ((p : ℕ) → (arc w a).express_from ≤ p → p < (arc w a).express_from + n → Waiting h a p t ≡ [])
   express_among zero = inr (λ p from to. absurd (omega (arith, from, to)))
   express_among (suc n) = elim (express_among n) [
     | inl o ↦ inl (o.0, o.1, omega (arith, o.2), o.3)
-    | inr none ↦ elim (waits_or_not (w.net.express_from + n)) [
-      | inl some ↦ inl (w.net.express_from + n, omega arith, omega arith, some)
-      | inr empty ↦ inr (λ p from to. elim (cases_lt p (w.net.express_from + n)) [
+    | inr none ↦ elim (waits_or_not ((arc w a).express_from + n)) [
+      | inl some ↦ inl ((arc w a).express_from + n, omega arith, omega arith, some)
+      | inr empty ↦ inr (λ p from to. elim (cases_lt p ((arc w a).express_from + n)) [
         | inl less ↦ none p from less
-        | inr more ↦ let is : w.net.express_from + n ≡ p = omega (arith, more, to) in subst (λ x. Waiting h a x t ≡ []) is empty
+        | inr more ↦ let is : (arc w a).express_from + n ≡ p = omega (arith, more, to) in subst (λ x. Waiting h a x t ≡ []) is empty
       ])
     ]
   ]
 
   pub express_decided : ExpressWaits w h a t ⊎ ¬ ExpressWaits w h a t
   express_decided =
-      let high = w.net.rules.express.1 in
-      elim (express_among (8 - w.net.express_from)) [
-        | inl o ↦ inl (o.0, o.1, omega (arith, o.2, high), o.3)
-        | inr none ↦ inr (λ x. x.3 (none x.0 x.1 (omega (arith, x.2, high))))
+      elim (express_among (8 - (arc w a).express_from)) [
+        | inl o ↦ inl (o.0, o.1, omega (arith, o.1, o.2), o.3)
+        | inr none ↦ inr (λ x. x.3 (none x.0 x.1 (omega (arith, x.1, x.2))))
       ]
 
 pub cuts_decided : (w : Scenario) (h : History) (b : Begin) (d : ℕ) → IsBoundary (ExpressWaits w h b.arc) (begun w h b) d ⊎ ¬ IsBoundary (ExpressWaits w h b.arc) (begun w h b) d

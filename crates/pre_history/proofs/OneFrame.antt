@@ -22,7 +22,7 @@ use Rattle.pre_history.specs.Examples.{first_send, SendsOneFrame, entered, first
 use Rattle.pre_history.proofs.Spelled.{OneSpelled}
 use Rattle.pre_history.proofs.Undamaged.{user_frame, whole_arrives}
 use Rattle.pre_history.proofs.Fronts.{IsRight, EntersRight, BeginsRight, IsWholeBegin}
-use Rattle.pre_history.proofs.PairFacts.{SendsAtStart, cost_one, far_end, first_ab, on_ab, no_next, prio_six, direct, no_delay, next, idle}
+use Rattle.pre_history.proofs.PairFacts.{express_four, SendsAtStart, cost_one, far_end, first_ab, on_ab, no_next, prio_six, direct, no_delay, next, idle}
 use Rattle.pre_history.proofs.PairFacts as facts
 use Rattle.pre_script.specs.declared.scripts.SendLine.{SendLine}
 use Rattle.pre_history.specs.Scenario.{send, no_send}
@@ -137,9 +137,9 @@ module _ (w : Scenario) (s : SendsOneFrame w) where
   unfolding Waiting
   other_ring q lt = let other : (6 == q) ≡ false = grind (arith, nat_tests) in rw other refl
 
-  front : IsFront w (entered ∷ []) 0 0 w.net.express_from 8 0
+  front : IsFront w (entered ∷ []) 0 0 (arc w 0).express_from 8 0
   unfolding Waiting
-  front = (6, omega (arith, s.net.express_from), omega arith, ([], refl), λ q lt lt'. other_ring q lt)
+  front = (6, omega (arith, express_four w (from_one w s) 0), omega arith, ([], refl), λ q lt lt'. other_ring q lt)
 
   starts_now : HappensIn w (entered ∷ []) 0 (Phase.starts 0) (PlainEvent.begin first_begin ∷ [])
   unfolding HappensIn StartRule Packets

@@ -52,6 +52,14 @@ module _ (w : Scenario) (s : SendsAtStart w) where
       go (suc zero) e = cc e
       go (suc (suc a)) e = cc e
 
+  pub express_four : (a : ℕ) → (arc w a).express_from ≤ 4
+  express_four a = let here = ap (λ (xs : List Arc). (slice_index_or xs a no_arc).express_from) s.net.arcs in omega (arith, here, go a)
+    where
+      go : (a : ℕ) → (slice_index_or pair_arcs a no_arc).express_from ≤ 4
+      go zero = omega arith
+      go (suc zero) = omega arith
+      go (suc (suc a)) = omega arith
+
   pub cost_one : (arc w 0).cost ≡ 1
   cost_one = ap (λ (xs : List Arc). (slice_index_or xs 0 no_arc).cost) s.net.arcs
 
@@ -103,7 +111,7 @@ module _ (w : Scenario) (s : SendsAtStart w) where
   direct = record {
     routes = λ f lt. omega (arith, ap length (hops_ab f));
     once = λ f lt i j d less within. absurd (omega (arith, less, within, ap length (hops_ab f)));
-    whole = λ f lt low. absurd (omega (arith, low, prio_six f, s.net.express_from));
+    whole = λ f lt i d i_lt low. absurd (omega (arith, low, prio_six f, express_four (slice_index_or (hops w f) i d)));
     losses = s.losses;
     damages = s.damages;
     sizes = λ f lt. let size = s.size f lt in (omega (arith, size), omega (arith, size));

@@ -1,6 +1,7 @@
 -- A whole frame that arrives as it was sent gives that frame.
 use Rattle.std.proofs.Common.{ℕ, ◌≡◌, ◌≤◌, List, ◌++◌, length, refl, ◌∙◌, ap, inl, arith, Some, length-append, Option}
 use Rattle.std.specs.Prelude.{slice_get, ◌↔◌, option_and_then}
+use Rattle.pre_base.specs.declared.limits.TheConstants.{GREATEST_DATA}
 use Rattle.pre_crc.specs.Checks.{Fcs}
 use Rattle.pre_crc.specs.CheckFacts.{length-Fcs}
 use Rattle.pre_mpacket.specs.declared.packets.Kind.TheVariants as kind
@@ -20,7 +21,7 @@ express_spelled one A i user at low =
     ap (λ o. option_and_then (λ a. option_and_then mpacket_of a) o) at ∙ spelled
 
 pub express_gives : OneSpelled → (A : List (Option (List ℕ))) (i : ℕ) (user : List ℕ) → slice_get A i ≡ Some (Some (head_of kind.Express ++ user ++ Fcs user))
-    → 60 ≤ length user → length user ≤ 1518 → Gives A i (Given.frame (user ++ Fcs user))
+    → 60 ≤ length user → length user ≤ GREATEST_DATA → Gives A i (Given.frame (user ++ Fcs user))
 express_gives one A i user at low high = (
   record { kind = kind.Express; mdata = user; check = Fcs user },
   express_spelled one A i user at low,

@@ -1,6 +1,6 @@
 -- What begins on an arc is decided, and so is a change of Active.
 use Rattle.std.proofs.Common.{ℕ, ◌≡◌, ◌⊎◌, ◌<◌, ◌∷◌, length, refl, sym, ◌∙◌, ap, inl, inr, arith, subst, Option, Some, ◌==◌, if◌then◌else◌}
-use Rattle.pre_history.specs.Scenario.{Scenario}
+use Rattle.pre_history.specs.Scenario.{Scenario, arc}
 use Rattle.pre_history.specs.History.{PlainEvent, History}
 use Rattle.pre_history.specs.Queries.{Begins, Waiting, Interrupted}
 use Rattle.pre_history.specs.Starts.{Item, place, Choice, IsFront, PreemptableAs, There, StartRule}
@@ -34,13 +34,13 @@ rest_one w h a t r s (first, more, run, ended, cut, is) (first', more', run', en
     cc (is, is', head, tail)
 
 pub there_one : (w : Scenario) (h : History) (a t : ℕ) (i : Item) → IsOne (There w h a t i)
-there_one w h a t Item.express c d (f, front, is) (g, front', is') = cc (front_one w h a t w.net.express_from 8 f g front front', is, is')
+there_one w h a t Item.express c d (f, front, is) (g, front', is') = cc (front_one w h a t (arc w a).express_from 8 f g front front', is, is')
 there_one w h a t Item.respond c d (on, owed, is) (on', owed', is') = is ∙ sym is'
 there_one w h a t Item.verify c d (on, wanted, is) (on', wanted', is') = is ∙ sym is'
 there_one w h a t Item.lldp c d (on, wanted, is) (on', wanted', is') = is ∙ sym is'
 there_one w h a t Item.rest c d (r, left, is) (s, left', is') = cc (rest_one w h a t r s left left', is, is')
 there_one w h a t Item.preemptable c d (f, k, front, as', is) (g, l, front', as'', is') =
-    cc (front_one w h a t 0 w.net.express_from f g front front', as_one w h a t k l as' as'', is, is')
+    cc (front_one w h a t 0 (arc w a).express_from f g front front', as_one w h a t k l as' as'', is, is')
 
 abbrev item_at : ℕ → Option Item
 item_at k =

@@ -141,9 +141,9 @@ module _ (w : Scenario) (n : ℕ) (h : History) (legal : LegalUpTo w n h) (a : �
   ]
 
   pub item_found : (i : Item) → ((c : Choice) × There w h a t i c) ⊎ ((c : Choice) → ¬ There w h a t i c)
-  item_found Item.express = elim (front_found w h a t w.net.express_from 8) [
+  item_found Item.express = elim (front_found w h a t (arc w a).express_from 8) [
     | inl (f, front) ↦ inl (whole_frame f kind.Express, (f, front, refl))
-    | inr none ↦ inr (λ c (f, front, is). no_front w h a t w.net.express_from 8 f none front)
+    | inr none ↦ inr (λ c (f, front, is). no_front w h a t (arc w a).express_from 8 f none front)
   ]
   item_found Item.respond = elim (both (is_negotiate (arc w a).mode) (owed_decided w n h legal a a_lt t)) [
     | inl (talks, owed) ↦ inl (without_octets kind.Respond, (talks, owed, refl))
@@ -161,8 +161,8 @@ module _ (w : Scenario) (n : ℕ) (h : History) (legal : LegalUpTo w n h) (a : �
     | inl (r, left) ↦ inl (rest_begins r, (r, left, refl))
     | inr none ↦ inr (λ c (r, left, is). none r left)
   ]
-  item_found Item.preemptable = elim (front_found w h a t 0 w.net.express_from) [
-    | inr none ↦ inr (λ c (f, k, front, as', is). no_front w h a t 0 w.net.express_from f none front)
+  item_found Item.preemptable = elim (front_found w h a t 0 (arc w a).express_from) [
+    | inr none ↦ inr (λ c (f, k, front, as', is). no_front w h a t 0 (arc w a).express_from f none front)
     | inl (f, front) ↦ elim as_found [
       | inl (k, as') ↦ inl (whole_frame f k, (f, k, front, as', refl))
       | inr none ↦ inr (λ c (g, k, front', as', is). none k as')

@@ -7,7 +7,7 @@ use Rattle.std.proofs.lemmas.List.Sums.{length-filter}
 use Rattle.pre_mpacket.specs.declared.packets.Kind.{Kind}
 use Rattle.pre_mpacket.specs.declared.packets.Kind.TheVariants as kind
 use Rattle.pre_mpacket.specs.Arrivals.{is_start}
-use Rattle.pre_history.specs.Scenario.{Scenario}
+use Rattle.pre_history.specs.Scenario.{Scenario, arc}
 use Rattle.pre_history.specs.History.{History, Begin}
 use Rattle.pre_history.specs.Selected.{begin_on}
 use Rattle.pre_history.specs.Queries.{Begins}
@@ -62,20 +62,20 @@ module _ (w : Scenario) (n : ℕ) (h es : History) (legal : LegalUpTo w n h) (t 
       to (inr (not_now, may, is)) = inr ((λ now. not_now (active.0 now)), may, is)
 
   there_from : (i : Item) (c : Choice) → There w (h ++ es) a t i c → There w h a t i c
-  there_from Item.express c (f, front, is) = (f, (front_stays w.net.express_from 8 f).0 front, is)
+  there_from Item.express c (f, front, is) = (f, (front_stays (arc w a).express_from 8 f).0 front, is)
   there_from Item.respond c (talks, owed, is) = (talks, (owed_stays w n h es legal t later a a_lt).0 owed, is)
   there_from Item.verify c (talks, wanted, is) = (talks, (verify_wanted_stays w n h es legal t later a a_lt talks).0 wanted, is)
   there_from Item.lldp c (talks, wanted, is) = (talks, (lldp_wanted_stays w n h es legal t later a a_lt).0 wanted, is)
   there_from Item.rest c (r, left, is) = (r, (interrupted_stays h es t later a w r).0 left, is)
-  there_from Item.preemptable c (f, k, front, as', is) = (f, k, (front_stays 0 w.net.express_from f).0 front, (as_stays k).0 as', is)
+  there_from Item.preemptable c (f, k, front, as', is) = (f, k, (front_stays 0 (arc w a).express_from f).0 front, (as_stays k).0 as', is)
 
   there_to : (i : Item) (c : Choice) → There w h a t i c → There w (h ++ es) a t i c
-  there_to Item.express c (f, front, is) = (f, (front_stays w.net.express_from 8 f).1 front, is)
+  there_to Item.express c (f, front, is) = (f, (front_stays (arc w a).express_from 8 f).1 front, is)
   there_to Item.respond c (talks, owed, is) = (talks, (owed_stays w n h es legal t later a a_lt).1 owed, is)
   there_to Item.verify c (talks, wanted, is) = (talks, (verify_wanted_stays w n h es legal t later a a_lt talks).1 wanted, is)
   there_to Item.lldp c (talks, wanted, is) = (talks, (lldp_wanted_stays w n h es legal t later a a_lt).1 wanted, is)
   there_to Item.rest c (r, left, is) = (r, (interrupted_stays h es t later a w r).1 left, is)
-  there_to Item.preemptable c (f, k, front, as', is) = (f, k, (front_stays 0 w.net.express_from f).1 front, (as_stays k).1 as', is)
+  there_to Item.preemptable c (f, k, front, as', is) = (f, k, (front_stays 0 (arc w a).express_from f).1 front, (as_stays k).1 as', is)
 
   pub there_stays : (i : Item) (c : Choice) → There w (h ++ es) a t i c ↔ There w h a t i c
   there_stays i c = (there_from i c, there_to i c)

@@ -25,7 +25,7 @@ use Rattle.pre_history.proofs.Lists.{any_at, found_at}
 use Rattle.pre_history.proofs.Free.{packet_at}
 use Rattle.pre_history.proofs.Fronts.{IsRight, EntersRight, BeginsRight, IsWholeBegin}
 use Rattle.pre_history.proofs.Undamaged.{user_frame}
-use Rattle.pre_history.proofs.PairFacts.{SendsAtStart, cost_one, far_end, first_ab, on_ab, no_next, prio_six, no_delay, frame_size}
+use Rattle.pre_history.proofs.PairFacts.{express_four, SendsAtStart, cost_one, far_end, first_ab, on_ab, no_next, prio_six, no_delay, frame_size}
 use Rattle.pre_history.proofs.Quiet.{selected, comings_are, not_due}
 
 pub from_two : (w : Scenario) → SendsTwoFrames w → SendsAtStart w
@@ -223,9 +223,9 @@ module _ (w : Scenario) (s : SendsTwoFrames w) where
   unfolding Waiting
   other_ring q lt = let other : (6 == q) ≡ false = grind (arith, nat_tests) in rw other refl
 
-  first_front : IsFront w both 0 0 w.net.express_from 8 0
+  first_front : IsFront w both 0 0 (arc w 0).express_from 8 0
   unfolding Waiting
-  first_front = (6, omega (arith, s.net.express_from), omega arith, (1 ∷ [], refl), λ q lt lt'. other_ring q lt)
+  first_front = (6, omega (arith, express_four w at 0), omega arith, (1 ∷ [], refl), λ q lt lt'. other_ring q lt)
 
   pub first_starts : HappensIn w both 0 (Phase.starts 0) (PlainEvent.begin (frame_begin 0 0 0) ∷ [])
   unfolding HappensIn StartRule Packets
@@ -236,9 +236,9 @@ module _ (w : Scenario) (s : SendsTwoFrames w) where
   unfolding Waiting
   second_ring q lt = let other : (6 == q) ≡ false = grind (arith, nat_tests) in rw other refl
 
-  second_front : IsFront w between 0 84 w.net.express_from 8 1
+  second_front : IsFront w between 0 84 (arc w 0).express_from 8 1
   unfolding Waiting
-  second_front = (6, omega (arith, s.net.express_from), omega arith, ([], refl), λ q lt lt'. second_ring q lt)
+  second_front = (6, omega (arith, express_four w at 0), omega arith, ([], refl), λ q lt lt'. second_ring q lt)
 
   pub second_starts : HappensIn w between 84 (Phase.starts 0) (PlainEvent.begin (frame_begin 84 1 1) ∷ [])
   unfolding HappensIn StartRule

@@ -3,6 +3,7 @@ use Rattle.std.proofs.Common.{ℕ, zero, suc, ◌≡◌, ◌==◌, ◌+◌, ◌-
 use Rattle.std.specs.Prelude.{slice_get, if◌then◌else◌, option_map, fold}
 use Rattle.std.specs.List.{list_any}
 use Rattle.std.proofs.lemmas.Bool.Decides.{nat_tests}
+use Rattle.pre_base.specs.declared.limits.TheConstants.{GREATEST_FRAME}
 use Rattle.pre_base.specs.declared.numbers.FrameNo.{FrameNo}
 use Rattle.pre_crc.specs.Checks.{Fcs, Mcrc}
 use Rattle.pre_crc.specs.CheckFacts.{length-Fcs}
@@ -92,7 +93,7 @@ whole_sent w h b e f is_express from_start is_frame sized checked low =
 pub whole_arrives : OneSpelled → (w : Scenario) (h : History) (a i : ℕ) (b : Begin) (e : Ended) (f : FrameNo) → w.script.losses ≡ [] → w.script.damages ≡ []
     → slice_get (Begins h a) i ≡ Some b → slice_get (Ends h a) i ≡ Some e → b.ord ≡ i → ((j : ℕ) (d : Ended) → slice_get (Ends h a) j ≡ Some d → d.ord ≡ j)
     → b.kind ≡ kind.Express → b.from ≡ 0 → b.what ≡ what.Frame f → SizeOf w h b.kind b e.size → e.check ≡ CheckOf w h b e.size
-    → 64 ≤ (send w f.0).send.size → (send w f.0).send.size ≤ 1522 → Gives (Air w h a) i (Given.frame (FrameOf w f.0))
+    → 64 ≤ (send w f.0).send.size → (send w f.0).send.size ≤ GREATEST_FRAME → Gives (Air w h a) i (Given.frame (FrameOf w f.0))
 whole_arrives spelled w h a i b e f no_loss no_damage at ended ord places is_express from_start is_frame sized checked low high =
     let user = (user_of w f.0).0 in
     let whole : FrameOf w f.0 ≡ user ++ Fcs user = (user_of w f.0).1 in

@@ -33,9 +33,9 @@ same_or_less u t le = grind arith
 
 module _ (w : Scenario) (n : ℕ) (h : History) (a t : ℕ) (a_lt : a < length w.net.arcs) (legal : LegalUpTo w n h) (lt : number (length w.net.arcs) t (2 + 3 * length w.net.arcs + a) < n) where
   -- where one waits and the arc is free, the front one begins
-  pub express_begins : ExpressWaits w h a t → ¬ Occupied w h a t → (f : ℕ) × IsFront w h a t w.net.express_from 8 f × HasBegun h a t (whole_frame f kind.Express)
+  pub express_begins : ExpressWaits w h a t → ¬ Occupied w h a t → (f : ℕ) × IsFront w h a t (arc w a).express_from 8 f × HasBegun h a t (whole_frame f kind.Express)
   unfolding StartRule
-  express_begins (p, from, to, some) free = elim (front_found w h a t w.net.express_from 8) [
+  express_begins (p, from, to, some) free = elim (front_found w h a t (arc w a).express_from 8) [
     | inr none ↦ absurd (some (none p from to))
     | inl (f, front) ↦ (f, front, (starts_read w n h a t a_lt legal lt (whole_frame f kind.Express)).1 (free, (Item.express, (f, front, refl), λ j d less. absurd (no_lower j less))))
   ]

@@ -1,6 +1,7 @@
 -- Runs in which each frame goes whole over each arc of its route and arrives as it was sent: what their deliveries say,
 -- and that a frame comes to a ring of each arc once.
 use Rattle.std.specs.Prelude.{ℕ, ◌<◌, ◌≤◌, ◌≡◌, ◌≢◌, false, List, [], length, All, AllPairs, Contains}
+use Rattle.pre_base.specs.declared.limits.TheConstants.{LEAST_FRAME, GREATEST_FRAME}
 use Rattle.pre_topo.specs.declared.arcs.Mode.TheVariants as mode
 use Rattle.pre_history.specs.Scenario.{Scenario, arc, row, send, FrameOf}
 use Rattle.pre_history.specs.History.{History}
@@ -12,13 +13,13 @@ pub record IsDirect (w : Scenario) : Type 0 where
   -- each frame has a route, which takes no arc twice
   pub routes : (f : ℕ) → f < length w.script.sends → 1 ≤ length (hops w f)
   pub once : (f : ℕ) → f < length w.script.sends → AllPairs (λ a b. a ≢ b) (hops w f)
-  -- a preemptable frame takes arcs that never preempt
-  pub whole : (f : ℕ) → f < length w.script.sends → (row w f).prio < w.net.express_from → All (λ a. (arc w a).mode ≡ mode.Off) (hops w f)
+  -- an arc on which it is preemptable never preempts
+  pub whole : (f : ℕ) → f < length w.script.sends → All (λ a. (row w f).prio < (arc w a).express_from → (arc w a).mode ≡ mode.Off) (hops w f)
   -- no mPacket is lost or damaged
   pub losses : w.script.losses ≡ []
   pub damages : w.script.damages ≡ []
-  -- frames have 64 to 1522 octets
-  pub sizes : (f : ℕ) → f < length w.script.sends → (64 ≤ (send w f).send.size) × ((send w f).send.size ≤ 1522)
+  -- frames have their size
+  pub sizes : (f : ℕ) → f < length w.script.sends → (LEAST_FRAME ≤ (send w f).send.size) × ((send w f).send.size ≤ GREATEST_FRAME)
 
 -- Each delivery has the octets of the frame that it names, which was sent by then, and no two deliveries name one frame.
 pub record DeliversOnce (w : Scenario) (h : History) : Type 0 where

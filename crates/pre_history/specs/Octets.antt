@@ -1,6 +1,7 @@
 -- The octets of an mPacket: how it was sent, and how it arrives.
 use Rattle.std.specs.Prelude.{ℕ, ◌+◌, ◌-◌, ◌==◌, ◌&&◌, Bool, true, false, if◌then◌else◌, List, [], ◌∷◌, ◌++◌, map, filter, filter_map, fold, take, drop, replicate, bit_xor, Option, None, unwrap_or, option_map}
 use Rattle.std.specs.List.{list_any}
+use Rattle.pre_base.specs.declared.limits.TheConstants.{LEAST_DATA}
 use Rattle.pre_crc.specs.Checks.{Mcrc}
 use Rattle.pre_script.specs.declared.scripts.Setting.{Setting}
 use Rattle.pre_script.specs.declared.scripts.Setting.TheVariants as setting
@@ -32,7 +33,7 @@ is_on setting.Gone = false
 
 -- the octets of a verify or a respond from its mData on (IEEE 802.3, 99.3.4)
 abbrev pub BareOctets : List ℕ
-BareOctets = replicate 60 0 ++ Mcrc (replicate 60 0)
+BareOctets = replicate LEAST_DATA 0 ++ Mcrc (replicate LEAST_DATA 0)
 
 abbrev pub xored_from : List ℕ → List ℕ → List ℕ
 xored_from [] xs = xs

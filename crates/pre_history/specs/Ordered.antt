@@ -1,12 +1,13 @@
 -- How the mPackets of an arc follow one another.
 use Rattle.std.specs.Prelude.{ℕ, suc, ◌+◌, ◌*◌, ◌<◌, ◌≤◌, ◌≡◌, List, length, Some, slice_get}
+use Rattle.pre_base.specs.declared.limits.TheConstants.{GAP}
 use Rattle.pre_history.specs.Scenario.{Scenario, arc}
 use Rattle.pre_history.specs.History.{Begin, Ended, Arrive, History}
 use Rattle.pre_history.specs.Queries.{Begins, Ends, Arrivals}
 use Rattle.pre_history.specs.Starts.{SizeOf}
 use Rattle.pre_history.specs.Rules.{CheckOf}
+use Rattle.pre_history.specs.Placed.{number, moment_of}
 use Rattle.pre_history.specs.Moments.{Phase}
-use Rattle.pre_history.specs.Placed.{moment_of}
 
 -- mPackets, their ends and their arrivals, at so many ticks for an octet and such a delay
 pub record AreOrdered (cost delay : ℕ) (begins : List Begin) (ends : List Ended) (arrivals : List Arrive) : Type 0 where
@@ -22,7 +23,7 @@ pub record AreOrdered (cost delay : ℕ) (begins : List Begin) (ends : List Ende
   pub spans : (i : ℕ) (b : Begin) (e : Ended) → slice_get begins i ≡ Some b → slice_get ends i ≡ Some e → e.tick ≡ b.tick + cost * (e.size + 8)
   pub travels : (i : ℕ) (e : Ended) (x : Arrive) → slice_get ends i ≡ Some e → slice_get arrivals i ≡ Some x → x.tick ≡ e.tick + delay
   -- each begins after the gap of twelve octets behind the one before it
-  pub apart : (i : ℕ) (e : Ended) (b : Begin) → slice_get ends i ≡ Some e → slice_get begins (suc i) ≡ Some b → e.tick + 12 * cost ≤ b.tick
+  pub apart : (i : ℕ) (e : Ended) (b : Begin) → slice_get ends i ≡ Some e → slice_get begins (suc i) ≡ Some b → e.tick + GAP * cost ≤ b.tick
 
 module _ (w : Scenario) (h : History) (a : ℕ) where
   abbrev pub IsOrdered : Type 0

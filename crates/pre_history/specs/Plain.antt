@@ -1,5 +1,6 @@
 -- The plain value of an event, and what the calls that take one ask of it.
 use Rattle.std.specs.Prelude.{◌<◌, ◌≤◌, length}
+use Rattle.pre_base.specs.declared.limits.TheConstants.{GREATEST_FRAME}
 use Rattle.pre_mpacket.specs.declared.packets.Kind.{Kind}
 use Rattle.pre_mpacket.specs.declared.packets.Kind.TheVariants as kind
 use Rattle.pre_history.specs.declared.events.Event.{Event}
@@ -29,7 +30,7 @@ IsKind kind.Respond = Unit {0}
 -- the octets of a delivery are 1 to 2,000
 abbrev pub IsEvent : PlainEvent → Type 0
 IsEvent (PlainEvent.begin b) = IsKind b.kind
-IsEvent (PlainEvent.deliver d) = (1 ≤ length d.octets) × (length d.octets ≤ 2000)
+IsEvent (PlainEvent.deliver d) = (1 ≤ length d.octets) × (length d.octets ≤ GREATEST_FRAME)
 IsEvent (PlainEvent.set tick arc value) = Unit {0}
 IsEvent (PlainEvent.ended e) = Unit {0}
 IsEvent (PlainEvent.arrive x) = Unit {0}

@@ -1,6 +1,7 @@
 -- What is read off a history: each query reads the whole list, at a tick.
-use Rattle.std.specs.Prelude.{ℕ, ◌+◌, ◌-◌, ◌*◌, ◌%◌, ◌<◌, ◌≤◌, ◌≡◌, ◌≢◌, ◌==◌, ◌&&◌, not, nat_lt, nat_le, Bool, List, [], ◌∷◌, ◌++◌, length, map, filter, filter_map, flat_map, take, drop, Any, Option, Some, None, MatchOption, slice_get, option_map, option_and_then, unwrap_or, ⊤}
+use Rattle.std.specs.Prelude.{ℕ, ◌+◌, ◌-◌, ◌*◌, ◌%◌, ◌<◌, ◌≤◌, ◌≡◌, ◌≢◌, ◌==◌, ◌&&◌, not, nat_lt, nat_le, Bool, List, [], ◌∷◌, ◌++◌, length, map, filter, filter_map, flat_map, take, drop, Any, All, Option, Some, None, MatchOption, slice_get, option_map, option_and_then, unwrap_or, ⊤}
 use Rattle.std.specs.List.{list_any, AllByRecursion as Every}
+use Rattle.pre_base.specs.declared.limits.TheConstants.{GAP}
 use Rattle.pre_script.specs.declared.scripts.Setting.{Setting}
 use Rattle.pre_script.specs.declared.scripts.Setting.TheVariants as setting
 use Rattle.pre_mpacket.specs.Arrivals.{is_start, is_fragment}
@@ -72,7 +73,7 @@ module _ (h : History) where
 module _ (w : Scenario) (h : History) where
   -- The mPacket is under way at the tick, or the gap of twelve octets after it isn't over.
   abbrev pub IsUnderWay : ℕ → ℕ → Packet → Type 0
-  IsUnderWay a t p = (p.begin.tick < t) × MatchOption p.ended ⊤ (λ e. t < e.tick + 12 * (arc w a).cost)
+  IsUnderWay a t p = (p.begin.tick < t) × MatchOption p.ended ⊤ (λ e. t < e.tick + GAP * (arc w a).cost)
 
   -- An mPacket that began earlier has no end, or its end and the gap after it aren't over.
   abbrev pub Occupied : ℕ → ℕ → Type 0

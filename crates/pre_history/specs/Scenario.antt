@@ -1,5 +1,5 @@
 -- What a run is given: a network, streams and a script that fit each other.
-use Rattle.std.specs.Prelude.{ℕ, List, [], ◌∷◌, slice_index, slice_index_or, slice_get, Option, Some, None}
+use Rattle.std.specs.Prelude.{ℕ, List, [], ◌∷◌, slice_index, slice_index_or, slice_get, IsSome, Option, Some, None}
 use Rattle.std.specs.Option.{option_map_or}
 use Rattle.pre_base.specs.declared.numbers.NodeId.{NodeId}
 use Rattle.pre_topo.specs.declared.network.Network.{Network}
@@ -21,7 +21,7 @@ pub record Scenario : Type 0 where
 
 -- what a number past the end of a list names: it is never asked for
 abbrev pub no_arc : Arc
-no_arc = record { from = record { 0 = 0 }; to = record { 0 = 0 }; cost = 0; delay = 0; mode = mode.Off; policy = policy.Quiet; add_frag = 0; rings = [] }
+no_arc = record { from = record { 0 = 0 }; to = record { 0 = 0 }; cost = 0; delay = 0; mode = mode.Off; policy = policy.Quiet; add_frag = 0; rings = []; express_from = 0; largest = 0 }
 
 abbrev pub no_row : Row
 no_row = record { name = []; vid = 0; prio = 0; route = []; arcs = []; max = 0; curve = None }
@@ -45,6 +45,10 @@ module _ (w : Scenario) where
   -- the row of a frame
   abbrev pub row : ℕ → Row
   row f = slice_index_or w.streams.rows (send f).send.stream.0 no_row
+
+  -- an express frame is one of a stream, that is of a row with a curve
+  abbrev pub IsExpressFrame : ℕ → Type 0
+  IsExpressFrame f = IsSome (row f).curve
 
   -- the latency of the arc's end
   abbrev pub latency : ℕ → ℕ

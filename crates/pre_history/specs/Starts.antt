@@ -46,9 +46,9 @@ abbrev pub lldp_begins : Choice
 lldp_begins = record { kind = kind.Express; what = what.Lldp; from = 0 }
 
 module _ (w : Scenario) (h : History) where
-  -- An express frame waits.
+  -- An express frame waits: one of a priority that is express on the arc.
   abbrev pub ExpressWaits : ℕ → ℕ → Type 0
-  ExpressWaits a t = (p : ℕ) × (w.net.express_from ≤ p) × (p < 8) × (Waiting h a p t ≢ [])
+  ExpressWaits a t = (p : ℕ) × ((arc w a).express_from ≤ p) × (p < 8) × (Waiting h a p t ≢ [])
 
   -- a fragment as it begins, with how many octets of its frame are unsent
   abbrev pub begun : Begin → Begun
@@ -85,12 +85,12 @@ module _ (w : Scenario) (h : History) where
 
   -- the item is there, and begins so
   abbrev pub There : ℕ → ℕ → Item → Choice → Type 0
-  There a t express c = (f : ℕ) × IsFront a t w.net.express_from 8 f × (c ≡ whole_frame f kind.Express)
+  There a t express c = (f : ℕ) × IsFront a t (arc w a).express_from 8 f × (c ≡ whole_frame f kind.Express)
   There a t respond c = ((arc w a).mode ≡ mode.Negotiate) × RespondOwed w h a t × (c ≡ without_octets kind.Respond)
   There a t verify c = ((arc w a).mode ≡ mode.Negotiate) × VerifyWanted w h a t × (c ≡ without_octets kind.Verify)
   There a t lldp c = ((arc w a).mode ≡ mode.Negotiate) × LldpWanted w h a t × (c ≡ lldp_begins)
   There a t rest c = (r : Rest) × Interrupted w h a t r × (c ≡ rest_begins r)
-  There a t preemptable c = (f : ℕ) × (k : Kind) × IsFront a t 0 w.net.express_from f × PreemptableAs a t k × (c ≡ whole_frame f k)
+  There a t preemptable c = (f : ℕ) × (k : Kind) × IsFront a t 0 (arc w a).express_from f × PreemptableAs a t k × (c ≡ whole_frame f k)
 
   -- On an arc that isn't occupied, the first item that is there begins.
   unfoldable pub StartRule : ℕ → ℕ → Choice → Type 0

@@ -269,7 +269,7 @@ pub fn entries_are_read()
 pub fn express_frames_begin()
     ensures begins { (w : Scenario) (n : ℕ) (h : History) (a t : ℕ) → a < length w.net.arcs → LegalUpTo w n h
         → moment_of w t (Phase.starts a) < n → ExpressWaits w h a t → ¬ Occupied w h a t
-        → (f : ℕ) × IsFront w h a t w.net.express_from 8 f × HasBegun h a t (whole_frame f kind.Express) }
+        → (f : ℕ) × IsFront w h a t (arc w a).express_from 8 f × HasBegun h a t (whole_frame f kind.Express) }
     ensures busy { (w : Scenario) (n : ℕ) (h : History) (a t : ℕ) → a < length w.net.arcs → LegalUpTo w n h
         → moment_of w t (Phase.starts a) < n → Occupied w h a t
         → (i : ℕ) × (b : Begin) × (size : ℕ) × (slice_get (Begins h a) i ≡ Some b) × (b.tick < t) × SizeOf w h b.kind b size

@@ -5,6 +5,7 @@ use Rattle.std.specs.List.{AllByRecursion as Every}
 use Rattle.std.proofs.Math.Seq.{take-add}
 use Rattle.std.proofs.lemmas.List.{append-nil, length-take-le, take-append-drop}
 use Rattle.std.proofs.lemmas.Grind.{flat_map-append}
+use Rattle.pre_base.specs.declared.limits.TheConstants.{GREATEST_FRAME}
 use Rattle.pre_base.specs.declared.numbers.FrameNo.{FrameNo}
 use Rattle.pre_crc.specs.Checks.{Mcrc}
 use Rattle.pre_mpacket.specs.declared.packets.Kind.{Kind}
@@ -46,7 +47,7 @@ module _ (w : Scenario) (routed : IsRouted w) (n : ℕ) (h : History) (legal : L
   pub right_at : (i : ℕ) (b : Begin) → slice_get (Begins h a) i ≡ Some b → BegunRight w a b
   right_at i b at = every_at (BegunRight w a) (Begins h a) i b (begins_right w h a (all_right w routed n h legal)) at
 
-  pub frame_long : (i : ℕ) (b : Begin) (f : FrameNo) → slice_get (Begins h a) i ≡ Some b → b.what ≡ what.Frame f → (64 ≤ length (FrameOf w f.0)) × (length (FrameOf w f.0) ≤ 1522)
+  pub frame_long : (i : ℕ) (b : Begin) (f : FrameNo) → slice_get (Begins h a) i ≡ Some b → b.what ≡ what.Frame f → (64 ≤ length (FrameOf w f.0)) × (length (FrameOf w f.0) ≤ GREATEST_FRAME)
   frame_long i b f at is =
       let size = routed.sizes f.0 ((right_at i b at).on f is).known in
       let long = length-FrameOf w f.0 (omega (arith, size.0)) in

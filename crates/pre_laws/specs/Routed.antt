@@ -1,5 +1,6 @@
 -- What the rules of the files give of routes and sizes, and where frames are by them.
 use Rattle.std.specs.Prelude.{ℕ, ◌+◌, ◌<◌, ◌≤◌, ◌≡◌, ◌≢◌, ◌⊎◌, length, AllPairs, Contains, Some, slice_get}
+use Rattle.pre_base.specs.declared.limits.TheConstants.{LEAST_FRAME, GREATEST_FRAME}
 use Rattle.pre_history.specs.declared.events.What.TheVariants as what
 use Rattle.pre_history.specs.declared.events.Outcome.TheVariants as outcome
 use Rattle.pre_history.specs.Scenario.{Scenario, send, latency, FrameOf}
@@ -10,12 +11,12 @@ use Rattle.pre_history.specs.Selected.{RingEntry}
 use Rattle.pre_history.specs.Octets.{Air}
 use Rattle.pre_mpacket.specs.Arrivals.{Given, Gives}
 
--- Each frame has a route by arcs of the network, which takes no arc twice, and 64 to 1522 octets.
+-- Each frame has a route by arcs of the network, which takes no arc twice, and the size of a frame.
 pub record IsRouted (w : Scenario) : Type 0 where
   pub routes : (f : ℕ) → f < length w.script.sends → 1 ≤ length (hops w f)
   pub once : (f : ℕ) → f < length w.script.sends → AllPairs (λ a b. a ≢ b) (hops w f)
   pub arcs : (f a : ℕ) → f < length w.script.sends → Contains (hops w f) a → a < length w.net.arcs
-  pub sizes : (f : ℕ) → f < length w.script.sends → (64 ≤ (send w f).send.size) × ((send w f).send.size ≤ 1522)
+  pub sizes : (f : ℕ) → f < length w.script.sends → (LEAST_FRAME ≤ (send w f).send.size) × ((send w f).send.size ≤ GREATEST_FRAME)
 
 -- The frame is of the script, was sent by the tick, and has the arc on its route.
 pub record IsOnRoute (w : Scenario) (a t f : ℕ) : Type 0 where

@@ -1,14 +1,16 @@
 -- Pieces that carry a frame give it.
-use Rattle.std.proofs.Common.{ℕ, suc, ◌≡◌, ◌≤◌, ◌<◌, ◌+◌, ◌-◌, List, [], ◌∷◌, ◌++◌, length, take, drop, refl, sym, ◌∙◌, ap, inr, arith, subst, Option, Some, None, append_assoc, length-append}
-use Rattle.std.specs.Prelude.{◌↔◌, true, slice_get, option_and_then}
+use Rattle.std.proofs.Common.{ℕ, suc, ◌≡◌, ◌≤◌, ◌<◌, ◌+◌, ◌-◌, List, [], ◌∷◌, ◌++◌, length, take, drop, refl, sym, ◌∙◌, ap, inr, arith, subst, Option, Some, append_assoc, length-append}
+use Rattle.std.specs.Prelude.{◌↔◌, true}
 use Rattle.std.proofs.lemmas.List.{append-nil}
+use Rattle.pre_base.specs.declared.limits.TheConstants.{GREATEST_DATA}
 use Rattle.pre_crc.specs.Checks.{Fcs, Mcrc}
 use Rattle.pre_crc.specs.CheckFacts.{length-Fcs}
-use Rattle.pre_mpacket.specs.Spelling.{PlainPacket, mpacket_of}
+use Rattle.pre_mpacket.specs.Spelling.{PlainPacket}
 use Rattle.pre_mpacket.specs.Pieces.{joined, last_check, IsContinued, IsSequence, IsChecked, Carries}
 use Rattle.pre_mpacket.specs.Arrivals.{Given, is_start, is_fragment, fragments_of, HasKind, Spelled, Fragments, Data, Chain, Gives}
 use Rattle.pre_mpacket.proofs.Chains.{first_fragment, fragments_split, gives_one}
-use Rattle.pre_mpacket.proofs.Spelled.{given_spells, take-front, drop-front}
+use Rattle.pre_mpacket.proofs.Spelled.{take-front, drop-front}
+use Rattle.pre_mpacket.proofs.FrameSizes.{spelled_whole}
 
 -- ---- lists of pieces
 
@@ -80,16 +82,8 @@ module _ (A : List (Option (List ℕ))) where
       let seq = subst IsSequence first sequence in
       (m, at, ap is_start seq.1.0)
 
-  check_is_four : (i : ℕ) (m : PlainPacket) → Spelled A i ≡ Some m → length m.check ≡ 4
-  check_is_four i m at = four_octets (slice_get A i) at
-    where
-      four_octets : (o : Option (Option (List ℕ))) → option_and_then (λ a. option_and_then mpacket_of a) o ≡ Some m → length m.check ≡ 4
-      four_octets None is = absurd (cc is)
-      four_octets (Some None) is = absurd (cc is)
-      four_octets (Some (Some octets)) is = (given_spells m octets is).whole.check
-
   module _ (j i add_frag : ℕ) (user : List ℕ) (le : j ≤ i) (first : HasKind A is_fragment j) (last : HasKind A is_fragment i)
-      (carries : Carries (user ++ Fcs user) add_frag (Fragments A j i)) (short : length user ≤ 1518) where
+      (carries : Carries (user ++ Fcs user) add_frag (Fragments A j i)) (short : length user ≤ GREATEST_DATA) where
     start : HasKind A is_start j
     start = first_start j i le first carries.sequence
 
@@ -98,11 +92,11 @@ module _ (A : List (Option (List ℕ))) where
         let front = last_fragment j i last.0 le last.1 last.2 in
         let check : last_check (Fragments A j i) ≡ last.0.check = ap last_check front.1 ∙ last_check-append front.0 last.0 in
         let whole : Data A j i ++ last.0.check ≡ user ++ Fcs user = ap (λ l. Data A j i ++ l) (sym check) ∙ carries.whole in
-        ends_same (Data A j i) user last.0.check (Fcs user) (check_is_four i last.0 last.1 ∙ sym (length-Fcs user)) whole
+        ends_same (Data A j i) user last.0.check (Fcs user) ((spelled_whole A i last.0 last.1).check ∙ sym (length-Fcs user)) whole
 
     gives_frame : Gives A i (Given.frame (user ++ Fcs user))
     gives_frame =
-        let chain : Chain A j i = (le, start, last, (carries.sequence, subst (λ l. length l ≤ 1518) (sym ending.0) short, carries.checked)) in
+        let chain : Chain A j i = (le, start, last, (carries.sequence, subst (λ l. length l ≤ GREATEST_DATA) (sym ending.0) short, carries.checked)) in
         (last.0, last.1, inr (user, (j, chain, sym ending.0), ending.1, ap (λ l. user ++ l) (sym ending.1)))
 
     pub frame_alone : (g : Given) → Gives A i g ↔ (g ≡ Given.frame (user ++ Fcs user))
@@ -115,7 +109,7 @@ module _ (A : List (Option (List ℕ))) where
         let after = last_fragment (suc k) i last.0 (omega (arith, below)) last.1 last.2 in
         let all : Fragments A j i ≡ (front.0 ++ here.0 ∷ []) ++ Fragments A (suc k) i = split ∙ ap (λ l. l ++ Fragments A (suc k) i) front.1 in
         let checked = part_checked front.0 (Fragments A (suc k) i) here.0 after.0 last.0 after.1 (subst (IsChecked []) all carries.checked) in
-        let fits : length (Data A j k) ≤ 1518 = omega (arith, short, ap length ending.0, ap (λ l. length (joined l)) split, ap length (joined-append (Fragments A j k) (Fragments A (suc k) i)), length-append (Data A j k) (joined (Fragments A (suc k) i))) in
+        let fits : length (Data A j k) ≤ GREATEST_DATA = omega (arith, short, ap length ending.0, ap (λ l. length (joined l)) split, ap length (joined-append (Fragments A j k) (Fragments A (suc k) i)), length-append (Data A j k) (joined (Fragments A (suc k) i))) in
         let chain : Chain A j k = (
           low,
           start,

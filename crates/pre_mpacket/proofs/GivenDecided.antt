@@ -1,6 +1,7 @@
 -- What an arrival gives is decided.
 use Rattle.std.proofs.Common.{ℕ, suc, ◌≡◌, ◌⊎◌, ◌+◌, ◌%◌, ◌≤◌, Bool, List, [], ◌∷◌, ◌++◌, length, refl, sym, ◌∙◌, inl, inr, arith, subst, Option, Some, None, replicate}
 use Rattle.std.specs.Prelude.{slice_get, IsTrue}
+use Rattle.pre_base.specs.declared.limits.TheConstants.{GREATEST_DATA, GREATEST_FRAME}
 use Rattle.pre_crc.specs.Checks.{Fcs, Mcrc}
 use Rattle.pre_mpacket.specs.declared.packets.Kind.{Kind}
 use Rattle.pre_mpacket.specs.declared.packets.Kind.TheVariants as kind
@@ -79,7 +80,7 @@ module _ (A : List (Option (List ℕ))) where
       ]
 
   chain : (j i : ℕ) → IsDecided (Chain A j i)
-  chain j i = four (at_most j i) (has_kind is_start j) (has_kind is_fragment i) (three (sequence (Fragments A j i)) (at_most (length (joined (Fragments A j i))) 1518) (checked [] (Fragments A j i)))
+  chain j i = four (at_most j i) (has_kind is_start j) (has_kind is_fragment i) (three (sequence (Fragments A j i)) (at_most (length (joined (Fragments A j i))) GREATEST_DATA) (checked [] (Fragments A j i)))
     where
       three : {P Q R : Type 0} → IsDecided P → IsDecided Q → IsDecided R → IsDecided (P × Q × R)
       three (inl p) (inl q) (inl r) = inl (p, q, r)
@@ -103,7 +104,7 @@ module _ (A : List (Option (List ℕ))) where
 
   module _ (i : ℕ) (m : PlainPacket) where
     express : IsDecided (IsExpress m (m.mdata ++ m.check))
-    express = five (is_express m.kind) (at_most 64 (length (m.mdata ++ m.check))) (at_most (length (m.mdata ++ m.check)) 1522) (equal_lists m.check (Fcs m.mdata))
+    express = five (is_express m.kind) (at_most 64 (length (m.mdata ++ m.check))) (at_most (length (m.mdata ++ m.check)) GREATEST_FRAME) (equal_lists m.check (Fcs m.mdata))
       where
         five : {P R S T : Type 0} {octets : List ℕ} → IsDecided P → IsDecided R → IsDecided S → IsDecided T → IsDecided (P × (octets ≡ octets) × R × S × T)
         five (inl p) (inl r) (inl s) (inl t) = inl (p, refl, r, s, t)
@@ -135,7 +136,7 @@ module _ (A : List (Option (List ℕ))) where
         first (inr w) (inr l) (inr p) (inr v) (inr r) = inr none
           where
             none : (g : Given) → ¬ GivesAs A i m g
-            none (Given.frame octets) (inl (k, is, few, many, check)) = w (k, refl, subst (λ (x : List ℕ). 64 ≤ length x) is few, subst (λ (x : List ℕ). length x ≤ 1522) is many, check)
+            none (Given.frame octets) (inl (k, is, few, many, check)) = w (k, refl, subst (λ (x : List ℕ). 64 ≤ length x) is few, subst (λ (x : List ℕ). length x ≤ GREATEST_FRAME) is many, check)
             none (Given.frame octets) (inr (all, ends, check, is)) = l all ends check
             none Given.part (all, ends, check) = p all ends check
             none Given.verify x = v x

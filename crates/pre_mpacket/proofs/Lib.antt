@@ -1,4 +1,5 @@
 pub mod Spelled
+pub mod FrameSizes
 pub mod Faulted
 pub mod Chains
 pub mod Later

@@ -4,6 +4,7 @@ use Rattle.std.specs.Prelude.{option_and_then, ◌↔◌}
 use Rattle.std.specs.List.{cons_option}
 use Rattle.std.proofs.lemmas.Bool.{cases_lt, false_from_ne_true}
 use Rattle.std.proofs.lemmas.List.{append-nil, take-append-drop, drop-drop}
+use Rattle.pre_base.specs.declared.limits.TheConstants.{GREATEST_DATA}
 use Rattle.pre_crc.specs.Checks.{Mcrc}
 use Rattle.pre_mpacket.specs.Spelling.{PlainPacket, mpacket_of}
 use Rattle.pre_mpacket.specs.Pieces.{joined, last_check, IsSequenceOf, IsChecked}
@@ -154,7 +155,7 @@ opened A (j, lt, (m, at, (all, (s, (le, start, last, chain), is), check)), none)
         sequence = subst (IsSequenceOf chain.0.0) (sym same) chain.0.1;
         checked = subst (IsChecked []) (sym same) chain.2;
         part = ap last_check (same ∙ front.1) ∙ (last_check-append front.0 m ∙ check);
-        short = subst (λ l. length l ≤ 1518) (sym is) chain.1;
+        short = subst (λ l. length l ≤ GREATEST_DATA) (sym is) chain.1;
         whole = is ∙ ap joined (sym same);
         counted = refl;
       },
@@ -175,7 +176,7 @@ open_before A c n octets o =
         let front = last_fragment A o.from k here.0 le here.1 here.2 in
         let check : here.0.check ≡ Mcrc octets = sym (ap last_check (same ∙ front.1) ∙ last_check-append front.0 here.0) ∙ o.part in
         let whole : octets ≡ Data A o.from k = o.whole ∙ ap joined same in
-        let chain : Chain A o.from k = (le, o.start, here, ((c, subst (IsSequenceOf c) same o.sequence), subst (λ l. length l ≤ 1518) whole o.short, subst (IsChecked []) same o.checked)) in (
+        let chain : Chain A o.from k = (le, o.start, here, ((c, subst (IsSequenceOf c) same o.sequence), subst (λ l. length l ≤ GREATEST_DATA) whole o.short, subst (IsChecked []) same o.checked)) in (
           k,
           spelled_within A k here.0 here.1,
           (here.0, here.1, (octets, (o.from, chain, whole), check)),

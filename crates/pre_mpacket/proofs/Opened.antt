@@ -5,6 +5,7 @@ use Rattle.std.proofs.Math.Seq.{take-length, drop-length}
 use Rattle.std.proofs.lemmas.Bool.{cases_lt}
 use Rattle.std.proofs.lemmas.List.{append-nil, drop-append-le, length-drop}
 use Rattle.std.proofs.lemmas.List.Elements.{filter_map-append, filter-append}
+use Rattle.pre_base.specs.declared.limits.TheConstants.{GREATEST_DATA}
 use Rattle.pre_crc.specs.Checks.{Mcrc}
 use Rattle.pre_mpacket.specs.declared.packets.Kind.TheVariants as kind
 use Rattle.pre_mpacket.specs.Spelling.{PlainPacket, mpacket_of}
@@ -107,7 +108,7 @@ module _ (A : List (Option (List ℕ))) (a : Option (List ℕ)) (m : PlainPacket
   opens c next follows d n all = (
     λ o.
         let f = follows o.from d o.start o.sequence in
-        (f.0, o.counted ∙ f.1, ends all (o.from, o.start, ((d, o.sequence), subst (λ l. length l ≤ 1518) o.whole o.short, o.checked), o.whole), sym (last o.from o.start) ∙ o.part),
+        (f.0, o.counted ∙ f.1, ends all (o.from, o.start, ((d, o.sequence), subst (λ l. length l ≤ GREATEST_DATA) o.whole o.short, o.checked), o.whole), sym (last o.from o.start) ∙ o.part),
     λ h.
         let e = joins all h.2 in
         let j = e.0 in
@@ -118,7 +119,7 @@ module _ (A : List (Option (List ℕ))) (a : Option (List ℕ)) (m : PlainPacket
           sequence = subst (λ x. IsSequenceOf x (fragments_from (A ++ a ∷ []) j)) (f.0 ∙ sym h.0) e.2.0.1;
           checked = e.2.2;
           part = last j e.1 ∙ h.3;
-          short = subst (λ l. length l ≤ 1518) (sym e.3) e.2.1;
+          short = subst (λ l. length l ≤ GREATEST_DATA) (sym e.3) e.2.1;
           whole = e.3;
           counted = h.1 ∙ sym f.1;
         },
@@ -157,19 +158,19 @@ module _ (A : List (Option (List ℕ))) (a : Option (List ℕ)) (m : PlainPacket
       → IsOpen (A ++ a ∷ []) d n all ↔ ((d ≡ c) × (n ≡ 0) × EndsChain (A ++ a ∷ []) (length A) all × (m.check ≡ Mcrc all))
   opens_start c d n all is = opens c 0 (follows_start c is) d n all
 
-  pub joins_start : (c : ℕ) (all : List ℕ) → m.kind ≡ kind.Start c → EndsChain (A ++ a ∷ []) (length A) all ↔ ((all ≡ m.mdata) × (length all ≤ 1518))
+  pub joins_start : (c : ℕ) (all : List ℕ) → m.kind ≡ kind.Start c → EndsChain (A ++ a ∷ []) (length A) all ↔ ((all ≡ m.mdata) × (length all ≤ GREATEST_DATA))
   unfolding Joins
   joins_start c all is = (
     λ e.
         let h = joins all e in
         let only = alone c is h.0 h.2.0.0 h.1 h.2.0.1 in
-        (h.3 ∙ (ap joined only ∙ append-nil m.mdata), subst (λ l. length l ≤ 1518) (sym h.3) h.2.1),
+        (h.3 ∙ (ap joined only ∙ append-nil m.mdata), subst (λ l. length l ≤ GREATEST_DATA) (sym h.3) h.2.1),
     λ h.
         let whole : all ≡ joined (fragments_from (A ++ a ∷ []) (length A)) = h.0 ∙ (sym (append-nil m.mdata) ∙ ap joined (sym fragments_alone)) in
         ends all (
           length A,
           (m, spelled_last A a ∙ at, ap is_start is),
-          ((c, subst (IsSequenceOf c) (sym fragments_alone) (is, tt)), subst (λ l. length l ≤ 1518) whole h.1, subst (IsChecked []) (sym fragments_alone) tt),
+          ((c, subst (IsSequenceOf c) (sym fragments_alone) (is, tt)), subst (λ l. length l ≤ GREATEST_DATA) whole h.1, subst (IsChecked []) (sym fragments_alone) tt),
           whole,
         ),
   )
@@ -228,7 +229,7 @@ module _ (A : List (Option (List ℕ))) (a : Option (List ℕ)) (m : PlainPacket
   opens_continuation c i d n all is = opens c ((i + 1) % 4) (follows_continuation c i is) d n all
 
   pub joins_continuation : (c i : ℕ) (all : List ℕ) → m.kind ≡ kind.Continue c i
-      → EndsChain (A ++ a ∷ []) (length A) all ↔ ((before : List ℕ) × IsOpen A c i before × (all ≡ before ++ m.mdata) × (length all ≤ 1518))
+      → EndsChain (A ++ a ∷ []) (length A) all ↔ ((before : List ℕ) × IsOpen A c i before × (all ≡ before ++ m.mdata) × (length all ≤ GREATEST_DATA))
   unfolding Joins
   joins_continuation c i all is = (
     λ e.
@@ -239,7 +240,7 @@ module _ (A : List (Option (List ℕ))) (a : Option (List ℕ)) (m : PlainPacket
         let checked = checked_pop [] p.first p.more m (subst (IsChecked []) parts h.2.2) in
         let whole : all ≡ joined (fragments_from A j) ++ m.mdata =
         h.3 ∙ (ap joined (pieces j (omega (arith, p.before))) ∙ (joined-append (fragments_from A j) (m ∷ []) ∙ ap (λ l. joined (fragments_from A j) ++ l) (append-nil m.mdata))) in
-        let short : length all ≤ 1518 = subst (λ l. length l ≤ 1518) (sym h.3) h.2.1 in (
+        let short : length all ≤ GREATEST_DATA = subst (λ l. length l ≤ GREATEST_DATA) (sym h.3) h.2.1 in (
           joined (fragments_from A j),
           record {
             from = j;
@@ -272,7 +273,7 @@ module _ (A : List (Option (List ℕ))) (a : Option (List ℕ)) (m : PlainPacket
         ends all (
           j,
           (f.0, spelled_before A (a ∷ []) j lt ∙ f.1, f.2),
-          ((c, subst (IsSequenceOf c) (sym parts) (sequence.0, more)), subst (λ l. length l ≤ 1518) whole h.3, subst (IsChecked []) (sym parts) checked),
+          ((c, subst (IsSequenceOf c) (sym parts) (sequence.0, more)), subst (λ l. length l ≤ GREATEST_DATA) whole h.3, subst (IsChecked []) (sym parts) checked),
           whole,
         ),
   )

@@ -3,6 +3,7 @@ use Rattle.std.proofs.Common.{ℕ, zero, suc, ◌≡◌, ◌≤◌, ◌<◌, ◌
 use Rattle.std.specs.Prelude.{◌↔◌}
 use Rattle.std.proofs.Math.Seq.{take-length, drop-append_seam}
 use Rattle.std.proofs.lemmas.List.{length-map}
+use Rattle.pre_base.specs.declared.limits.TheConstants.{GREATEST_DATA}
 use Rattle.pre_crc.specs.Checks.{Fcs}
 use Rattle.pre_mpacket.specs.Spelling.{PlainPacket}
 use Rattle.pre_mpacket.specs.Pieces.{IsContinued, IsSequence, Carries, SpellEach}
@@ -54,7 +55,7 @@ spelled_after (a ∷ A) B zero k is = absurd (omega arith)
 spelled_after (a ∷ A) B (suc n) k is = spelled_after A B n k (omega arith)
 
 module _ (A : List (Option (List ℕ))) (parts : List PlainPacket) (pieces : List (List ℕ)) (add_frag : ℕ) (user : List ℕ)
-    (spelled : SpellEach parts pieces) (carries : Carries (user ++ Fcs user) add_frag parts) (short : length user ≤ 1518) where
+    (spelled : SpellEach parts pieces) (carries : Carries (user ++ Fcs user) add_frag parts) (short : length user ≤ GREATEST_DATA) where
   fragments : AreFragments parts
   fragments = sequence_fragments parts carries.sequence
 

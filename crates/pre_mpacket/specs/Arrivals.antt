@@ -1,5 +1,6 @@
 -- What each of a list of arrivals gives. Place i of the list has the octets of arrival i, and None where it was lost.
 use Rattle.std.specs.Prelude.{ℕ, suc, ◌-◌, ◌<◌, ◌≤◌, ◌≡◌, ◌⊎◌, Bool, true, false, List, [], ◌++◌, length, filter, filter_map, take, drop, replicate, Option, Some, None, slice_get, option_and_then, IsTrue, IsFalse}
+use Rattle.pre_base.specs.declared.limits.TheConstants.{LEAST_FRAME, GREATEST_FRAME, LEAST_DATA, GREATEST_DATA}
 use Rattle.pre_crc.specs.Checks.{Fcs, Mcrc}
 use Rattle.pre_mpacket.specs.declared.packets.Kind.{Kind}
 use Rattle.pre_mpacket.specs.declared.packets.Kind.TheVariants as kind
@@ -28,18 +29,18 @@ is_fragment other = false
 abbrev pub fragments_of : List (Option (List ℕ)) → List PlainPacket
 fragments_of arrivals = filter (λ m. is_fragment m.kind) (filter_map (λ a. option_and_then mpacket_of a) arrivals)
 
--- A start and its continuations with at most 1518 octets of mData in all, each of which is accepted but perhaps for
+-- A start and its continuations with no more mData in all than a frame may have, each of which is accepted but perhaps for
 -- the check of the last one.
 abbrev pub IsChain : List PlainPacket → Type 0
-IsChain ms = IsSequence ms × (length (joined ms) ≤ 1518) × IsChecked [] ms
+IsChain ms = IsSequence ms × (length (joined ms) ≤ GREATEST_DATA) × IsChecked [] ms
 
--- an express mPacket with its frame of 64 to 1522 octets
+-- an express mPacket with its frame
 abbrev pub IsExpress : PlainPacket → List ℕ → Type 0
-IsExpress m octets = (m.kind ≡ kind.Express) × (octets ≡ m.mdata ++ m.check) × (64 ≤ length octets) × (length octets ≤ 1522) × (m.check ≡ Fcs m.mdata)
+IsExpress m octets = (m.kind ≡ kind.Express) × (octets ≡ m.mdata ++ m.check) × (LEAST_FRAME ≤ length octets) × (length octets ≤ GREATEST_FRAME) × (m.check ≡ Fcs m.mdata)
 
 -- a verify or respond as it is sent
 abbrev pub IsBare : PlainPacket → Kind → Type 0
-IsBare m k = (m.kind ≡ k) × (m.mdata ≡ replicate 60 0) × (m.check ≡ Mcrc m.mdata)
+IsBare m k = (m.kind ≡ k) × (m.mdata ≡ replicate LEAST_DATA 0) × (m.check ≡ Mcrc m.mdata)
 
 module _ (A : List (Option (List ℕ))) where
   -- arrival i was lost

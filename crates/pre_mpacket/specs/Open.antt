@@ -1,5 +1,6 @@
 -- The frame that is open after a list of arrivals.
 use Rattle.std.specs.Prelude.{ℕ, ◌-◌, ◌%◌, ◌≤◌, ◌≡◌, List, [], length, drop, Option}
+use Rattle.pre_base.specs.declared.limits.TheConstants.{GREATEST_DATA}
 use Rattle.pre_crc.specs.Checks.{Mcrc}
 use Rattle.pre_mpacket.specs.Spelling.{PlainPacket}
 use Rattle.pre_mpacket.specs.Pieces.{joined, last_check, IsSequenceOf, IsChecked}
@@ -17,6 +18,6 @@ pub record IsOpen (A : List (Option (List ℕ))) (frame_count next : ℕ) (octet
   pub sequence : IsSequenceOf frame_count (fragments_from A from)
   pub checked : IsChecked [] (fragments_from A from)
   pub part : last_check (fragments_from A from) ≡ Mcrc octets
-  pub short : length octets ≤ 1518
+  pub short : length octets ≤ GREATEST_DATA
   pub whole : octets ≡ joined (fragments_from A from)
   pub counted : next ≡ (length (fragments_from A from) - 1) % 4

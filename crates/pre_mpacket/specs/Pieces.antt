@@ -1,5 +1,6 @@
 -- The pieces that carry a frame, and where a fragment is cut (IEEE 802.3, 99.4).
 use Rattle.std.specs.Prelude.{◌≡◌, ◌⊎◌, ℕ, ◌+◌, ◌-◌, ◌*◌, ◌%◌, ◌≤◌, List, [], ◌∷◌, ◌++◌, length, flat_map}
+use Rattle.pre_base.specs.declared.limits.TheConstants.{LEAST_FRAME, CHECK, HEAD}
 use Rattle.pre_crc.specs.Checks.{Mcrc}
 use Rattle.pre_mpacket.specs.declared.packets.Kind.TheVariants as kind
 use Rattle.pre_mpacket.specs.Spelling.{PlainPacket, Spells}
@@ -35,13 +36,13 @@ IsChecked before (m ∷ n ∷ ms) = (m.check ≡ Mcrc (before ++ m.mdata)) × Is
 
 -- the least octets of mData that are sent before a cut, by the link's additional fragment size of 0 to 3
 abbrev pub least_fragment : ℕ → ℕ
-least_fragment add_frag = 64 * (1 + add_frag) - 4
+least_fragment add_frag = LEAST_FRAME * (1 + add_frag) - CHECK
 
--- Each but the last has the least mData at least, and a last one after others has 64 octets, check included.
+-- Each but the last has the least mData at least, and a last one after others as many octets as a frame, check included.
 abbrev pub HasSizes : ℕ → List PlainPacket → Type 0
 HasSizes add_frag [] = Unit {0}
 HasSizes add_frag (m ∷ []) = Unit {0}
-HasSizes add_frag (m ∷ n ∷ []) = (least_fragment add_frag ≤ length m.mdata) × (64 ≤ length n.mdata + length n.check)
+HasSizes add_frag (m ∷ n ∷ []) = (least_fragment add_frag ≤ length m.mdata) × (LEAST_FRAME ≤ length n.mdata + length n.check)
 HasSizes add_frag (m ∷ n ∷ o ∷ ms) = (least_fragment add_frag ≤ length m.mdata) × HasSizes add_frag (n ∷ o ∷ ms)
 
 -- The parts, of which there is one or more, carry the frame.
@@ -71,10 +72,10 @@ pub record Begun : Type 0 where
 module _ (Waits : ℕ → Type 0) (b : Begun) where
   -- The fragment may be cut after d octets of mData.
   abbrev pub IsBoundary : ℕ → Type 0
-  IsBoundary d = (least_fragment b.add_frag ≤ d) × (64 ≤ b.unsent - d) × Waits (b.tick + b.octet_ticks * (8 + d))
+  IsBoundary d = (least_fragment b.add_frag ≤ d) × (LEAST_FRAME ≤ b.unsent - d) × Waits (b.tick + b.octet_ticks * (HEAD + d))
 
   -- The fragment is cut at its first boundary, and where there is none it is the last one of its frame.
   abbrev pub CutRule : ℕ → Type 0
   CutRule size =
-      ((d : ℕ) × IsBoundary d × ((e : ℕ) → IsBoundary e → d ≤ e) × (size ≡ d + 4))
+      ((d : ℕ) × IsBoundary d × ((e : ℕ) → IsBoundary e → d ≤ e) × (size ≡ d + CHECK))
       ⊎ ((d : ℕ) → ¬ IsBoundary d) × (size ≡ b.unsent)

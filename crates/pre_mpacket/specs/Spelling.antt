@@ -1,6 +1,7 @@
 -- How an mPacket is spelled in octets (IEEE 802.3, 99.3).
 use Rattle.std.specs.Prelude.{◌≡◌, ◌≢◌, ◌⊎◌, ℕ, ◌-◌, ◌<◌, ◌≤◌, nat_lt, nat_eq, if◌then◌else◌, List, [], ◌∷◌, ◌++◌, length, take, drop, replicate, map, flat_map, find, slice_index, Contains, Option, None, option_map, Result, Ok, Err}
 use Rattle.std.specs.List.{starts_with}
+use Rattle.pre_base.specs.declared.limits.TheConstants.{LEAST_DATA}
 use Rattle.pre_mpacket.specs.declared.packets.Kind.{Kind}
 use Rattle.pre_mpacket.specs.declared.packets.Kind.TheVariants as kind
 use Rattle.pre_mpacket.specs.declared.packets.MPacket.{MPacket}
@@ -43,7 +44,7 @@ HasCounts other = Unit {0}
 -- an mPacket that can be sent
 pub record IsWhole (m : PlainPacket) : Type 0 where
   pub counts : HasCounts m.kind
-  pub mdata : 60 ≤ length m.mdata
+  pub mdata : LEAST_DATA ≤ length m.mdata
   pub check : length m.check ≡ 4
 
 -- The octets are the mPacket's.

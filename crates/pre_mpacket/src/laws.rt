@@ -1,4 +1,5 @@
 ghost use Rattle.std.specs.Prelude.{◌≡◌, ◌↔◌, ◌<◌, ◌≤◌, ◌+◌, ◌-◌, ◌%◌, ◌++◌, ◌∷◌, [], ℕ, List, Option, length, map, Contains, ◌⊎◌};
+ghost use Rattle.pre_base.specs.declared.limits.TheConstants.{LEAST_FRAME, GREATEST_FRAME, GREATEST_DATA};
 ghost use Rattle.pre_mpacket.specs.declared.packets.Kind.TheVariants.{Start, Continue};
 ghost use Rattle.pre_mpacket.specs.Spelling.{PlainPacket, Spells, mpacket_of};
 ghost use Rattle.pre_mpacket.specs.Pieces.{Begun, CutRule, Carries, SpellEach};
@@ -25,6 +26,11 @@ pub fn one_given()
     ensures { (A : List (Option (List ℕ))) (i : ℕ) (g h : Given) → Gives A i g → Gives A i h → g ≡ h }
 {}
 
+/// A frame that an arrival gives has the size of a frame.
+pub fn frames_have_their_size()
+    ensures { (A : List (Option (List ℕ))) (i : ℕ) (octets : List ℕ) → Gives A i (Given.frame octets) → (LEAST_FRAME ≤ length octets) × (length octets ≤ GREATEST_FRAME) }
+{}
+
 /// What an arrival gives doesn't change with later ones.
 pub fn later_arrivals()
     ensures { (A B : List (Option (List ℕ))) (i : ℕ) (g : Given) → i < length A → Gives (A ++ B) i g ↔ Gives A i g }
@@ -36,11 +42,11 @@ pub fn later_arrivals()
 pub fn pieces_give_the_frame()
     ensures last { (A : List (Option (List ℕ))) (j i add_frag : ℕ) (user : List ℕ)
         → j ≤ i → HasKind A is_fragment j → HasKind A is_fragment i
-        → Carries (user ++ Fcs user) add_frag (Fragments A j i) → length user ≤ 1518
+        → Carries (user ++ Fcs user) add_frag (Fragments A j i) → length user ≤ GREATEST_DATA
         → (g : Given) → Gives A i g ↔ (g ≡ Given.frame (user ++ Fcs user)) }
     ensures before { (A : List (Option (List ℕ))) (j i add_frag : ℕ) (user : List ℕ)
         → j ≤ i → HasKind A is_fragment j → HasKind A is_fragment i
-        → Carries (user ++ Fcs user) add_frag (Fragments A j i) → length user ≤ 1518
+        → Carries (user ++ Fcs user) add_frag (Fragments A j i) → length user ≤ GREATEST_DATA
         → (k : ℕ) → j ≤ k → k < i → HasKind A is_fragment k
         → (g : Given) → Gives A k g ↔ (g ≡ Given.part) }
 {}
@@ -48,25 +54,25 @@ pub fn pieces_give_the_frame()
 /// So it is where the octets of the pieces come in a row.
 pub fn pieces_in_a_row()
     ensures last { (A : List (Option (List ℕ))) (parts : List PlainPacket) (pieces : List (List ℕ)) (add_frag : ℕ) (user : List ℕ)
-        → SpellEach parts pieces → Carries (user ++ Fcs user) add_frag parts → length user ≤ 1518
+        → SpellEach parts pieces → Carries (user ++ Fcs user) add_frag parts → length user ≤ GREATEST_DATA
         → (g : Given) → Gives (A ++ map (λ octets. Some octets) pieces) (length A + (length pieces - 1)) g
         ↔ (g ≡ Given.frame (user ++ Fcs user)) }
     ensures before { (A : List (Option (List ℕ))) (parts : List PlainPacket) (pieces : List (List ℕ)) (add_frag : ℕ) (user : List ℕ)
-        → SpellEach parts pieces → Carries (user ++ Fcs user) add_frag parts → length user ≤ 1518
+        → SpellEach parts pieces → Carries (user ++ Fcs user) add_frag parts → length user ≤ GREATEST_DATA
         → (k : ℕ) → k < length pieces - 1
         → (g : Given) → Gives (A ++ map (λ octets. Some octets) pieces) (length A + k) g ↔ (g ≡ Given.part) }
 {}
 
-/// The data that a further arrival ends, which has at most 1518 octets: of a start its own mData, and of a
+/// The data that a further arrival ends, which has no more octets than the mData of a frame: of a start its own mData, and of a
 /// continuation what is open with its frame count and its fragment count, and then its own.
 pub fn next_joins()
     ensures start { (A : List (Option (List ℕ))) (octets all : List ℕ) (m : PlainPacket) (c : ℕ)
         → Spells m octets → m.kind ≡ Start c
-        → EndsChain (A ++ Some octets ∷ []) (length A) all ↔ ((all ≡ m.mdata) × (length all ≤ 1518)) }
+        → EndsChain (A ++ Some octets ∷ []) (length A) all ↔ ((all ≡ m.mdata) × (length all ≤ GREATEST_DATA)) }
     ensures continuation { (A : List (Option (List ℕ))) (octets all : List ℕ) (m : PlainPacket) (c n : ℕ)
         → Spells m octets → m.kind ≡ Continue c n
         → EndsChain (A ++ Some octets ∷ []) (length A) all
-        ↔ ((before : List ℕ) × IsOpen A c n before × (all ≡ before ++ m.mdata) × (length all ≤ 1518)) }
+        ↔ ((before : List ℕ) × IsOpen A c n before × (all ≡ before ++ m.mdata) × (length all ≤ GREATEST_DATA)) }
 {}
 
 /// Which frame is open after a further arrival: the one whose data a start or continuation ends with the right

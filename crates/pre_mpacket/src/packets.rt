@@ -40,7 +40,7 @@ pub(crate) const CONTINUE: [u8; 4] = [0x61, 0x52, 0x9E, 0x2A];
 pub(crate) const FRAGMENT: [u8; 4] = [0xE6, 0x4C, 0x7F, 0xB3];
 
 /// The octets before the mData: preamble, SMD, and the fragment count of a continuation.
-pub(crate) const HEAD: usize = 8;
+pub(crate) const HEAD: usize = pre_base::HEAD as usize;
 
 /// The octets of a check.
-pub(crate) const CHECK: usize = 4;
+pub(crate) const CHECK: usize = pre_base::CHECK as usize;

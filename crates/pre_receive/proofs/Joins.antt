@@ -1,6 +1,7 @@
 -- What the last arrival gives, where it spells an mPacket.
 use Rattle.std.proofs.Common.{ℕ, suc, ◌≡◌, ◌⊎◌, ◌≤◌, ◌<◌, List, [], ◌∷◌, ◌++◌, length, length-append, refl, sym, ◌∙◌, ap, arith, subst, inl, inr, Option, Some, None, true, false, Bool}
 use Rattle.std.specs.Prelude.{◌≢◌, ◌↔◌, replicate}
+use Rattle.pre_base.specs.declared.limits.TheConstants.{GREATEST_DATA}
 use Rattle.pre_crc.specs.Checks.{Fcs, Mcrc}
 use Rattle.pre_crc.specs.Register as register
 use Rattle.pre_mpacket.specs.declared.packets.Kind.{Kind}
@@ -166,7 +167,7 @@ module _ (laws : PacketLaws) (A : List (Option (List ℕ))) (a : List ℕ) (m : 
   no_chain : (k : Kind) → m.kind ≡ k → is_fragment k ≡ false → (all : List ℕ) → ¬ EndsChain (A ++ Some a ∷ []) (length A) all
   no_chain k is fails all (j, chain, whole) = kind_not is_fragment k is fails chain.2
 
-  pub express_nothing : m.kind ≡ kind.Express → ((length m.mdata ≤ 1518) → (m.check ≡ Fcs m.mdata) → ⊥) → GivesNothing (A ++ Some a ∷ []) (length A)
+  pub express_nothing : m.kind ≡ kind.Express → ((length m.mdata ≤ GREATEST_DATA) → (m.check ≡ Fcs m.mdata) → ⊥) → GivesNothing (A ++ Some a ∷ []) (length A)
   express_nothing is none = nothing refused
     where
       refused : (g : Given) → ¬ GivesAs (A ++ Some a ∷ []) (length A) m g
@@ -210,11 +211,11 @@ module _ (laws : PacketLaws) (A : List (Option (List ℕ))) (a : List ℕ) (m : 
   pub record Ends (k : Kind) (c next : ℕ) (all : List ℕ) : Type 0 where
     pub is : m.kind ≡ k
     pub fragment : is_fragment k ≡ true
-    pub ends : length all ≤ 1518 → EndsChain (A ++ Some a ∷ []) (length A) all
-    pub only : (xs : List ℕ) → EndsChain (A ++ Some a ∷ []) (length A) xs → (xs ≡ all) × (length xs ≤ 1518)
+    pub ends : length all ≤ GREATEST_DATA → EndsChain (A ++ Some a ∷ []) (length A) all
+    pub only : (xs : List ℕ) → EndsChain (A ++ Some a ∷ []) (length A) xs → (xs ≡ all) × (length xs ≤ GREATEST_DATA)
     pub opens : (d n : ℕ) (xs : List ℕ) → IsOpen (A ++ Some a ∷ []) d n xs ↔ ((d ≡ c) × (n ≡ next) × EndsChain (A ++ Some a ∷ []) (length A) xs × (m.check ≡ Mcrc xs))
-    pub long : 1518 < length all → IsLong (A ++ Some a ∷ []) (length A) m k
-    pub fits : length all ≤ 1518 → ¬ IsLong (A ++ Some a ∷ []) (length A) m k
+    pub long : GREATEST_DATA < length all → IsLong (A ++ Some a ∷ []) (length A) m k
+    pub fits : length all ≤ GREATEST_DATA → ¬ IsLong (A ++ Some a ∷ []) (length A) m k
     pub before : (r : Reason) → place_of r < 6 → ¬ HasReason (A ++ Some a ∷ []) (length A) r
 
   pub joined_taken : (k : Kind) (c next : ℕ) (all : List ℕ) → Ends k c next all → (r : Receiver) (o : Outcome)
@@ -234,12 +235,12 @@ module _ (laws : PacketLaws) (A : List (Option (List ℕ))) (a : List ℕ) (m : 
   joined_taken k c next all e r outcome.Respond h = absurd h
 
   -- nothing is open after data whose check isn't its Mcrc, or that is too long
-  shut : (k : Kind) (c next : ℕ) (all : List ℕ) → Ends k c next all → ((length all ≤ 1518) → m.check ≢ Mcrc all) → (w : Option Opened) (octets : List ℕ) → w ≡ None
+  shut : (k : Kind) (c next : ℕ) (all : List ℕ) → Ends k c next all → ((length all ≤ GREATEST_DATA) → m.check ≢ Mcrc all) → (w : Option Opened) (octets : List ℕ) → w ≡ None
       → Holds w octets (A ++ Some a ∷ [])
   shut k c next all e none w octets is = subst (λ v. Holds v octets (A ++ Some a ∷ [])) (sym is)
       (λ d n xs o. let h = (e.opens d n xs).0 o in let only = e.only xs h.2 in none (omega (arith, only.1, ap length only.0)) (h.3 ∙ ap Mcrc only.0))
 
-  opened : (k : Kind) (c next : ℕ) (all : List ℕ) → Ends k c next all → length all ≤ 1518 → m.check ≡ Mcrc all → (w : Option Opened) (octets : List ℕ)
+  opened : (k : Kind) (c next : ℕ) (all : List ℕ) → Ends k c next all → length all ≤ GREATEST_DATA → m.check ≡ Mcrc all → (w : Option Opened) (octets : List ℕ)
       → Opens w c next all → octets ≡ all → Holds w octets (A ++ Some a ∷ [])
   opened k c next all e le check None octets opens kept = absurd opens
   opened k c next all e le check (Some o) octets (count, n, stands) kept = (

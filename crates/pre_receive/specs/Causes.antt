@@ -1,5 +1,6 @@
 -- Why an arrival gives nothing (IEEE 802.3, 99.4).
 use Rattle.std.specs.Prelude.{◌≡◌, ◌≢◌, ◌⊎◌, ℕ, ◌+◌, ◌<◌, List, ◌++◌, length, take, Option, Some, slice_get}
+use Rattle.pre_base.specs.declared.limits.TheConstants.{GREATEST_FRAME, LEAST_DATA, GREATEST_DATA}
 use Rattle.pre_mpacket.specs.declared.packets.Kind.{Kind}
 use Rattle.pre_mpacket.specs.declared.packets.Kind.TheVariants as kind
 use Rattle.pre_mpacket.specs.declared.reading.MFault.{MFault}
@@ -46,14 +47,14 @@ module _ (A : List (Option (List ℕ))) (i : ℕ) where
   abbrev pub MeetsOpen : ℕ → ℕ → ℕ → ℕ → Type 0
   MeetsOpen c n d e = (m : PlainPacket) × (before : List ℕ) × (Spelled A i ≡ Some m) × (m.kind ≡ kind.Continue c n) × IsOpen (take i A) d e before
 
-  -- An express frame has over 1522 octets, its check included; a start, or the data that a continuation joins, has over 1518;
-  -- a verify or respond has other than 60.
+  -- An express frame is longer than any frame; a start, or the data that a continuation joins, is longer than that of any
+  -- frame; a verify or respond is not just as long as the least.
   abbrev pub IsLong : PlainPacket → Kind → Type 0
-  IsLong m kind.Express = 1522 < length m.mdata + length m.check
-  IsLong m (kind.Start c) = 1518 < length m.mdata
-  IsLong m (kind.Continue c n) = (d e : ℕ) × (before : List ℕ) × IsOpen (take i A) d e before × (1518 < length (before ++ m.mdata))
-  IsLong m kind.Verify = length m.mdata ≢ 60
-  IsLong m kind.Respond = length m.mdata ≢ 60
+  IsLong m kind.Express = GREATEST_FRAME < length m.mdata + length m.check
+  IsLong m (kind.Start c) = GREATEST_DATA < length m.mdata
+  IsLong m (kind.Continue c n) = (d e : ℕ) × (before : List ℕ) × IsOpen (take i A) d e before × (GREATEST_DATA < length (before ++ m.mdata))
+  IsLong m kind.Verify = length m.mdata ≢ LEAST_DATA
+  IsLong m kind.Respond = length m.mdata ≢ LEAST_DATA
 
   -- Arrival i has this reason to give nothing.
   abbrev pub HasReason : Reason → Type 0

@@ -1,5 +1,6 @@
 -- What holds of mPackets and of lists of arrivals, as it is used here.
 use Rattle.std.specs.Prelude.{◌≡◌, ◌≢◌, ◌↔◌, ℕ, ◌+◌, ◌%◌, ◌<◌, ◌≤◌, List, [], ◌∷◌, ◌++◌, length, Option, Some}
+use Rattle.pre_base.specs.declared.limits.TheConstants.{GREATEST_DATA}
 use Rattle.pre_crc.specs.Checks.{Fcs, Mcrc}
 use Rattle.pre_mpacket.specs.declared.packets.Kind.TheVariants as kind
 use Rattle.pre_mpacket.specs.Spelling.{PlainPacket, Spells, mpacket_of}
@@ -13,11 +14,11 @@ pub record PacketLaws : Type 0 where
   pub later_given : (A B : List (Option (List ℕ))) (i : ℕ) (g : Given) → i < length A → Gives (A ++ B) i g ↔ Gives A i g
   pub start_joins : (A : List (Option (List ℕ))) (octets all : List ℕ) (m : PlainPacket) (c : ℕ)
       → Spells m octets → m.kind ≡ kind.Start c
-      → EndsChain (A ++ Some octets ∷ []) (length A) all ↔ ((all ≡ m.mdata) × (length all ≤ 1518))
+      → EndsChain (A ++ Some octets ∷ []) (length A) all ↔ ((all ≡ m.mdata) × (length all ≤ GREATEST_DATA))
   pub continuation_joins : (A : List (Option (List ℕ))) (octets all : List ℕ) (m : PlainPacket) (c n : ℕ)
       → Spells m octets → m.kind ≡ kind.Continue c n
       → EndsChain (A ++ Some octets ∷ []) (length A) all
-      ↔ ((before : List ℕ) × IsOpen A c n before × (all ≡ before ++ m.mdata) × (length all ≤ 1518))
+      ↔ ((before : List ℕ) × IsOpen A c n before × (all ≡ before ++ m.mdata) × (length all ≤ GREATEST_DATA))
   pub start_opens : (A : List (Option (List ℕ))) (octets all : List ℕ) (m : PlainPacket) (c d n : ℕ)
       → Spells m octets → m.kind ≡ kind.Start c
       → IsOpen (A ++ Some octets ∷ []) d n all

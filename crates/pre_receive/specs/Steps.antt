@@ -1,5 +1,6 @@
 -- What an mPacket comes to by its own octets and those of the open frame.
 use Rattle.std.specs.Prelude.{◌≡◌, ◌≢◌, ◌⊎◌, ℕ, ◌+◌, ◌%◌, ◌<◌, ◌≤◌, List, ◌++◌, length, replicate, Option, Some, None}
+use Rattle.pre_base.specs.declared.limits.TheConstants.{LEAST_DATA, GREATEST_DATA}
 use Rattle.pre_crc.specs.Checks.{Fcs, Mcrc}
 use Rattle.pre_crc.specs.Register as register
 use Rattle.pre_receive.specs.declared.taken.Cause.TheVariants as cause
@@ -10,16 +11,16 @@ use Rattle.pre_receive.specs.Held.{IsOf}
 
 -- an express mPacket, and the frame that is kept of it
 abbrev pub ExpressTo : Outcome → List ℕ → List ℕ → List ℕ → Type 0
-ExpressTo outcome.Express mdata check whole = (length mdata ≤ 1518) × (check ≡ Fcs mdata) × (whole ≡ mdata ++ check)
-ExpressTo (outcome.Nothing c) mdata check whole = ((c ≡ cause.Size) × (1518 < length mdata)) ⊎ ((c ≡ cause.Check) × (length mdata ≤ 1518) × (check ≢ Fcs mdata))
+ExpressTo outcome.Express mdata check whole = (length mdata ≤ GREATEST_DATA) × (check ≡ Fcs mdata) × (whole ≡ mdata ++ check)
+ExpressTo (outcome.Nothing c) mdata check whole = ((c ≡ cause.Size) × (GREATEST_DATA < length mdata)) ⊎ ((c ≡ cause.Check) × (length mdata ≤ GREATEST_DATA) × (check ≢ Fcs mdata))
 ExpressTo _ mdata check whole = ⊥
 
 -- a verify or respond, where this is the outcome of a good one
 abbrev pub BareTo : Outcome → Outcome → List ℕ → List ℕ → Type 0
 BareTo good o mdata check =
-    (o ≡ good) × (mdata ≡ replicate 60 0) × (check ≡ Mcrc mdata)
-    ⊎ (o ≡ outcome.Nothing cause.Size) × (length mdata ≢ 60)
-    ⊎ (o ≡ outcome.Nothing cause.Check) × (length mdata ≡ 60) × ¬ ((mdata ≡ replicate 60 0) × (check ≡ Mcrc mdata))
+    (o ≡ good) × (mdata ≡ replicate LEAST_DATA 0) × (check ≡ Mcrc mdata)
+    ⊎ (o ≡ outcome.Nothing cause.Size) × (length mdata ≢ LEAST_DATA)
+    ⊎ (o ≡ outcome.Nothing cause.Check) × (length mdata ≡ LEAST_DATA) × ¬ ((mdata ≡ replicate LEAST_DATA 0) × (check ≡ Mcrc mdata))
 
 -- what is open, with these counts and octets
 abbrev pub Opens : Option Opened → ℕ → ℕ → List ℕ → Type 0
@@ -29,11 +30,11 @@ Opens (Some o) frame_count next octets = IsOf o frame_count next octets
 -- data that is joined, whose next fragment count is this, with the check behind it; and what is kept of it
 abbrev pub JoinedTo : Outcome → ℕ → ℕ → List ℕ → List ℕ → Option Opened → List ℕ → Type 0
 JoinedTo outcome.Joined frame_count next all check now_open kept =
-    (length all ≤ 1518) × (check ≡ Fcs all) × (now_open ≡ None) × (kept ≡ all ++ check)
+    (length all ≤ GREATEST_DATA) × (check ≡ Fcs all) × (now_open ≡ None) × (kept ≡ all ++ check)
 JoinedTo outcome.Part frame_count next all check now_open kept =
-    (length all ≤ 1518) × (check ≡ Mcrc all) × Opens now_open frame_count next all × (kept ≡ all)
+    (length all ≤ GREATEST_DATA) × (check ≡ Mcrc all) × Opens now_open frame_count next all × (kept ≡ all)
 JoinedTo (outcome.Nothing c) frame_count next all check now_open kept =
-    (now_open ≡ None) × (((c ≡ cause.Size) × (1518 < length all)) ⊎ ((c ≡ cause.Check) × (length all ≤ 1518) × (check ≢ Fcs all) × (check ≢ Mcrc all)))
+    (now_open ≡ None) × (((c ≡ cause.Size) × (GREATEST_DATA < length all)) ⊎ ((c ≡ cause.Check) × (length all ≤ GREATEST_DATA) × (check ≢ Fcs all) × (check ≢ Mcrc all)))
 JoinedTo _ frame_count next all check now_open kept = ⊥
 
 -- a continuation, by the frame that was open with these octets

@@ -1,5 +1,6 @@
 ghost use Rattle.std.specs.Prelude.{◌≡◌, ◌+◌, ◌%◌, ◌<◌, ◌≤◌, ℕ, List, [], ◌∷◌, ◌++◌, length, Option, Some, IfOk};
 ghost use Rattle.std.specs.Vec.{vec_capacity};
+ghost use Rattle.pre_base.specs.declared.limits.TheConstants.{GREATEST_FRAME};
 ghost use Rattle.pre_crc.specs.Register as register;
 ghost use Rattle.pre_receive.specs.Steps.{BareTo};
 ghost use Rattle.pre_receive.specs.Faults.{fault_cause};
@@ -9,18 +10,13 @@ use crate::laws::packet_laws;
 use crate::opened::Opened;
 use crate::outcomes::Outcome;
 use crate::taken::{Cause, Taken};
+use pre_base::{GREATEST_DATA, GREATEST_FRAME, LEAST_DATA};
 use pre_crc::{Running, fcs};
-use pre_mpacket::{Kind, MFault, MPacket, read_mpacket};
+use pre_mpacket::{Kind, MFault, MPacket, frames_have_their_size, read_mpacket};
 use std::alloc::{AllocError, Global};
 
-/// The most octets of mData that make a frame: 1522 with the check.
-const MOST: usize = 1518;
-
-/// The octets of a frame at most, its check included.
-const FRAME: usize = 1522;
-
 /// The mData of a verify or respond.
-const BARE: [u8; 60] = [0; 60];
+const BARE: [u8; LEAST_DATA as usize] = [0; LEAST_DATA as usize];
 
 /// The receiving end of one link. It keeps one open frame, and no list of what arrived.
 #[derive(Debug, Drop)]
@@ -31,8 +27,8 @@ pub struct Receiver {
     whole: Vec<u8>,
     opened: Option<Opened>,
     counters: Counters,
-    ghost octets_room: { 1522 ≤ vec_capacity octets },
-    ghost whole_room: { 1522 ≤ vec_capacity whole },
+    ghost octets_room: { GREATEST_FRAME ≤ vec_capacity octets },
+    ghost whole_room: { GREATEST_FRAME ≤ vec_capacity whole },
 }
 
 impl Receiver {
@@ -42,7 +38,7 @@ impl Receiver {
     ghost use mathlib.Core.Option.{none};
     ghost use denote.Follow.{follows_so};
     ghost use Rattle.pre_mpacket.specs.Spelling as spelling;
-    ghost use Rattle.pre_receive.specs.Takings.{plain, IsTaken};
+    ghost use Rattle.pre_receive.specs.Takings.{plain, IsTaken, HasFrameSize};
     ghost use Rattle.pre_receive.specs.Counts.{Count};
     ghost use Rattle.pre_receive.specs.Receivers.{Stands, taking, SortedTo};
     ghost use Rattle.pre_receive.specs.Steps.{ExpressTo, JoinedTo, ContinuedTo};
@@ -52,8 +48,8 @@ impl Receiver {
         ensures { IfOk result (λ r. Stands r []) }
     {
         Ok(Receiver {
-            octets: Vec::with_capacity(alloc, FRAME)?,
-            whole: Vec::with_capacity(alloc, FRAME)?,
+            octets: Vec::with_capacity(alloc, usize::from(GREATEST_FRAME))?,
+            whole: Vec::with_capacity(alloc, usize::from(GREATEST_FRAME))?,
             opened: None,
             counters: Counters {
                 frame_ass_error: 0,
@@ -70,7 +66,9 @@ impl Receiver {
         ensures* after { sem 𝓛 (follows_so the_row the_row self.entry.ghost_name none (λ _ _. ⊤)
             (λ new. (A : List (Option (List ℕ))) → Stands self.old A → Stands new (A ++ Some arrived.now ∷ []))) }
         ensures taken { (A : List (Option (List ℕ))) → Stands self.old A → IsTaken (A ++ Some arrived.now ∷ []) (length A) (plain result) }
+        ensures size { (A : List (Option (List ℕ))) → Stands self.old A → HasFrameSize (plain result) }
     {
+        frames_have_their_size();
         let outcome = self.receive(arrived);
         self.lent(outcome)
     }
@@ -143,7 +141,7 @@ impl Receiver {
         ensures octets { self.new.octets.items ≡ self.old.octets.items }
         ensures counters { self.new.counters ≡ self.old.counters }
     {
-        if mdata.len() > MOST {
+        if mdata.len() > usize::from(GREATEST_DATA) {
             return Outcome::Nothing(Cause::Size);
         }
         if check != fcs(mdata).as_slice() {
@@ -207,7 +205,7 @@ impl Receiver {
         ensures counters { self.new.counters ≡ self.old.counters }
     {
         self.opened = None;
-        if self.octets.len() + mdata.len() > MOST {
+        if self.octets.len() + mdata.len() > usize::from(GREATEST_DATA) {
             return Outcome::Nothing(Cause::Size);
         }
         self.octets.extend_from_slice(mdata).unwrap();

@@ -1,7 +1,7 @@
 /// What an arrival gives.
 #[derive(Clone, Copy, Debug, PartialEq, Eq)]
 pub enum Taken<'a> {
-    /// A frame of 64 to 1522 octets, its check included.
+    /// A frame of 64 to 2000 octets, its check included.
     Frame(&'a [u8]),
     /// A question whether this end takes fragments.
     Verify,

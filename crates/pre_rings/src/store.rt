@@ -1,14 +1,16 @@
 ghost use Rattle.std.specs.Prelude.{◌≡◌, ◌+◌, ◌≤◌, ◌++◌, [], take, drop, All, IsSome, IfSome, IfNone, IfOk, None, Some, length, replicate, slice_get, slice_set};
 ghost use Rattle.std.specs.Vec.{vec_capacity};
+ghost use Rattle.pre_base.specs.declared.limits.TheConstants.{GREATEST_FRAME};
 ghost use Rattle.pre_rings.specs.Stores.{IsOut};
 ghost use Rattle.pre_rings.specs.Slots.{IsFull};
 
 use crate::slots::Slot;
+use pre_base::GREATEST_FRAME;
 use std::alloc::{AllocError, Global};
 use std::marker::Model;
 
-/// How many octets a slot has room for: the largest tagged frame, check included (IEEE 802.3, 3.2.7).
-const WIDTH: usize = 1522;
+/// How many octets a slot has room for.
+const WIDTH: usize = GREATEST_FRAME as usize;
 
 /// A store of as many slots as it was made with. Contracts see it as a list with an entry for each
 /// slot: `None` while the slot is in, and while it is out the octets that it was last filled with.
@@ -22,13 +24,14 @@ pub struct FrameStore {
 impl Model for FrameStore {
     ghost use Rattle.std.specs.Prelude.{ℕ, List, Option};
     ghost use Rattle.std.specs.Vec.{vec_capacity};
+    ghost use Rattle.pre_base.specs.declared.limits.TheConstants.{GREATEST_FRAME};
     ghost use Rattle.pre_rings.specs.Slots.{slots_of, IsKept};
 
     ghost Value = { List (Option (List ℕ)) };
 
-    ghost view = { λ s. slots_of 1522 s.sizes.items s.octets.items };
+    ghost view = { λ s. slots_of GREATEST_FRAME s.sizes.items s.octets.items };
 
-    ghost invariant = { λ s. IsKept 1522 s.sizes.items s.octets.items s.free.items (vec_capacity s.free) };
+    ghost invariant = { λ s. IsKept GREATEST_FRAME s.sizes.items s.octets.items s.free.items (vec_capacity s.free) };
 }
 
 impl FrameStore {
@@ -62,7 +65,7 @@ impl FrameStore {
     /// Puts octets into a slot, in place of what it held.
     pub fn fill(&mut self, slot: &Slot, octets: &[u8])
         requires out { IsOut self.old slot.now }
-        requires size { length octets.now ≤ 1522 }
+        requires size { length octets.now ≤ GREATEST_FRAME }
         ensures { self.new ≡ slice_set self.old slot.now (Some octets.now) }
     {
         let place = usize::from(slot.place());

@@ -1,5 +1,6 @@
 -- For which calls so far a sender stands.
 use Rattle.std.specs.Prelude.{◌≡◌, ◌⊎◌, ℕ, ◌+◌, ◌*◌, ◌%◌, ◌<◌, ◌≤◌, Bool, true, false, List, [], ◌∷◌, map, Option, Some, None, nat_le, is_some}
+use Rattle.pre_base.specs.declared.limits.TheConstants.{LEAST_FRAME, GREATEST_FRAME, GAP}
 use Rattle.pre_crc.specs.Register as register
 use Rattle.pre_rings.specs.declared.slots.FrameRef.{FrameRef}
 use Rattle.pre_send.specs.declared.choices.Choice.{Choice}
@@ -71,7 +72,7 @@ pub record Stands (s : Sender) (cost add_frag : ℕ) (calls : List Call) : Type 
 
 abbrev pub is_gone : ℕ → Option ℕ → ℕ → Bool
 is_gone cost None t = true
-is_gone cost (Some e) t = nat_le (e + 12 * cost) t
+is_gone cost (Some e) t = nat_le (e + GAP * cost) t
 
 abbrev pub is_free_with : Option Going → ℕ → Option ℕ → ℕ → Bool
 is_free_with None cost last t = is_gone cost last t
@@ -85,7 +86,7 @@ is_interrupted s = is_some s.kept
 
 -- a choice that may be made
 abbrev pub HasSize : FrameRef → Type 0
-HasSize f = (64 ≤ f.size) × (f.size ≤ 1522)
+HasSize f = (LEAST_FRAME ≤ f.size) × (f.size ≤ GREATEST_FRAME)
 
 abbrev pub MayBegin : Sender → Choice → Type 0
 MayBegin s (choice.Express f) = HasSize f

@@ -1,5 +1,6 @@
 -- The mPackets that a sender sends: their kinds, their places in their frames and their sizes.
 use Rattle.std.specs.Prelude.{◌≡◌, ℕ, suc, ◌+◌, ◌-◌, ◌*◌, ◌%◌, ◌≤◌, ◌==◌, Bool, true, false, List, [], ◌∷◌, ◌++◌, map, take, drop, slice_get, Option, Some, None}
+use Rattle.pre_base.specs.declared.limits.TheConstants.{GAP}
 use Rattle.pre_mpacket.specs.declared.packets.Kind.{Kind}
 use Rattle.pre_mpacket.specs.declared.packets.Kind.TheVariants as kind
 use Rattle.pre_mpacket.specs.Pieces.{CutRule}
@@ -102,10 +103,10 @@ module _ (cost add_frag : ℕ) where
     pub sent : AreSent packets
 
 module _ (cost : ℕ) where
-  -- no mPacket is under way, and 12 octet times have passed since the end of each
+  -- no mPacket is under way, and the gap has passed since the end of each
   abbrev pub HasGap : Option End → ℕ → Type 0
   HasGap None t = ⊥
-  HasGap (Some end) t = end.tick + 12 * cost ≤ t
+  HasGap (Some end) t = end.tick + GAP * cost ≤ t
 
   abbrev pub IsFree : List Told → ℕ → Type 0
   IsFree [] t = Unit {0}

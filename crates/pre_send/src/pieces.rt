@@ -1,22 +1,15 @@
 ghost use Rattle.std.specs.Prelude.{◌≡◌, ℕ, ◌+◌, ◌-◌, ◌*◌, ◌^◌, ◌≤◌, ◌<◌, Option, None, Some, MatchOption, length, take, drop};
 ghost use Rattle.std.specs.Option.{ForSome};
+ghost use Rattle.pre_base.specs.declared.limits.TheConstants.{GREATEST_FRAME};
 ghost use Rattle.pre_mpacket.specs.Spelling.{PlainPacket, HasCounts, IsWhole};
 ghost use Rattle.pre_rings.specs.Stores.{HoldsFrame};
 ghost use Rattle.pre_send.specs.Cuts.{IsFirstCut};
 ghost use Rattle.pre_send.specs.Sendings.{octets_at};
 
+use pre_base::{CHECK, HEAD, LEAST_FRAME};
 use pre_crc::Running;
 use pre_mpacket::Kind;
 use pre_rings::{FrameRef, FrameStore};
-
-/// The octets of a check.
-pub(crate) const CHECK: u16 = 4;
-
-/// The octets of an mPacket before its mData.
-pub(crate) const HEAD: u64 = 8;
-
-/// The least octets of a last fragment, its check included.
-const LAST: u64 = 64;
 
 /// A frame that is sent in fragments, and how far it is.
 #[derive(Debug, Drop)]
@@ -31,7 +24,7 @@ pub(crate) struct Piece {
     pub check: Running,
     /// The octets of mData after which the fragment is cut.
     pub cut: Option<u16>,
-    ghost size_within: { frame.size ≤ 1522 },
+    ghost size_within: { frame.size ≤ GREATEST_FRAME },
     ghost last_within: { from + 64 ≤ frame.size },
     ghost cut_within: { ForSome cut (λ d. from + d + 64 ≤ frame.size) },
     ghost cut_least: { ForSome cut (λ d. 60 ≤ d) },
@@ -146,12 +139,12 @@ pub(crate) fn first_cut(began: u64, waits: u64, cost: u64, add_frag: u8, unsent:
     requires most { cost ≤ 1000 }
     requires add_frag { add_frag ≤ 3 }
     requires waits { waits ≤ 10 ^ 18 }
-    requires unsent { unsent ≤ 1522 }
+    requires unsent { unsent ≤ GREATEST_FRAME }
     ensures { IsFirstCut began waits cost add_frag unsent result }
 {
-    let least = LAST * (1 + u64::from(add_frag)) - u64::from(CHECK);
+    let least = u64::from(LEAST_FRAME) * (1 + u64::from(add_frag)) - u64::from(CHECK);
     let mdata = least.max(octets_by(began, waits, cost).saturating_sub(HEAD));
-    if mdata + LAST <= u64::from(unsent) {
+    if mdata + u64::from(LEAST_FRAME) <= u64::from(unsent) {
         Some(mdata as u16)
     } else {
         None

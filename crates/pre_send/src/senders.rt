@@ -1,19 +1,17 @@
 ghost use Rattle.std.specs.Prelude.{◌≡◌, ◌↔◌, IsTrue, IsSome, IfSome, is_some, option_map, ℕ, ◌+◌, ◌*◌, ◌^◌, ◌≤◌, ◌<◌, true, false, take, drop, List, [], ◌∷◌, ◌++◌, Option, Some, None};
 ghost use Rattle.std.specs.Option.{ForSome};
+ghost use Rattle.pre_base.specs.declared.limits.TheConstants.{LEAST_FRAME, GREATEST_FRAME};
 ghost use Rattle.pre_rings.specs.Stores.{HoldsFrame};
 ghost use Rattle.pre_send.specs.Fragments.{next_fragment};
 ghost use Rattle.pre_send.specs.Sendings.{octets_at};
 
 use crate::choices::{Choice, Sent};
 use crate::going::{Going, Task};
-use crate::pieces::{HEAD, Piece, part_of};
-use pre_base::{FrameNo, Tick};
+use crate::pieces::{Piece, part_of};
+use pre_base::{FrameNo, GAP, HEAD, Tick};
 use pre_crc::Running;
 use pre_mpacket::Kind;
 use pre_rings::{FrameRef, FrameStore};
-
-/// The octet times between an mPacket and the next one.
-const GAP: u64 = 12;
 
 /// The sending end of one link. It keeps the frame under way and the one that is interrupted, and no list of what was sent.
 #[derive(Debug, Drop)]
@@ -268,8 +266,8 @@ impl Sender {
 
     // The first fragment of a frame.
     fn first(&mut self, frame: FrameRef) -> Task
-        requires least { 64 ≤ frame.size }
-        requires most { frame.size ≤ 1522 }
+        requires least { LEAST_FRAME ≤ frame.size }
+        requires most { frame.size ≤ GREATEST_FRAME }
         ensures first { Firsts self.old self.new frame result }
         ensures size { 64 ≤ task_size result }
     {

@@ -1,4 +1,5 @@
 ghost use Rattle.std.specs.Prelude.{◌≡◌, ◌≤◌, true, IfSome, length};
+ghost use Rattle.pre_base.specs.declared.limits.TheConstants.{LEAST_FRAME, GREATEST_FRAME};
 ghost use Rattle.pre_rings.specs.declared.slots.FrameRef.{FrameRef};
 ghost use Rattle.pre_rings.specs.Stores.{HoldsFrame};
 ghost use Rattle.pre_send.specs.Endings.{HoldsAll, HoldsChoice};
@@ -42,7 +43,7 @@ fn frame_octets(octets: &mut [u8]) {
 
 // A frame with these octets, which the store then holds, as it holds those before it.
 fn frame_in(store: &mut FrameStore, octets: &[u8]) -> Option<FrameRef>
-    requires { length octets.now ≤ 1522 }
+    requires { length octets.now ≤ GREATEST_FRAME }
     ensures held { IfSome result (λ f. HoldsFrame store.new f) }
     ensures others { (f : FrameRef) → HoldsFrame store.old f → HoldsFrame store.new f }
 {
@@ -58,10 +59,10 @@ fn frame_in(store: &mut FrameStore, octets: &[u8]) -> Option<FrameRef>
 }
 
 fn has_size(frame: &FrameRef) -> bool
-    ensures least { result ≡ true → 64 ≤ frame.now.size }
-    ensures most { result ≡ true → frame.now.size ≤ 1522 }
+    ensures least { result ≡ true → LEAST_FRAME ≤ frame.now.size }
+    ensures most { result ≡ true → frame.now.size ≤ GREATEST_FRAME }
 {
-    frame.size >= 64 && frame.size <= 1522
+    frame.size >= LEAST_FRAME && frame.size <= GREATEST_FRAME
 }
 
 fn may_begin(sender: &Sender, choice: &Choice) -> bool

@@ -6,6 +6,7 @@ use Rattle.std.proofs.lemmas.Bool.{cases_lt}
 use Rattle.std.proofs.lemmas.List.{append-nil}
 use Rattle.std.proofs.lemmas.List.Elements.{filter_map-append}
 use Rattle.std.proofs.lemmas.List.Sums.{fold-append}
+use Rattle.pre_base.specs.declared.limits.TheConstants.{GREATEST_FRAME}
 use Rattle.pre_base.specs.declared.numbers.FrameNo.{FrameNo}
 use Rattle.pre_base.specs.declared.numbers.ArcId.{ArcId}
 use Rattle.pre_streams.specs.declared.rows.Row.{Row}
@@ -72,9 +73,9 @@ pub first_on_wire : (w : Scenario) (store : Store) (a t : ℕ) (old new : Lane) 
 first_on_wire w store a t old new f keeps arr = every_at (IsOnWire w a) old.flying.items 0 f keeps.flying arr.was
 
 -- how many octets it has
-pub wire_long : (w : Scenario) → CanRun w.net w.streams w.script → (a : ℕ) (f : Flight) → IsOnWire w a f → (64 ≤ length f.octets.items) × (length f.octets.items ≤ 1522)
+pub wire_long : (w : Scenario) → CanRun w.net w.streams w.script → (a : ℕ) (f : Flight) → IsOnWire w a f → (64 ≤ length f.octets.items) × (length f.octets.items ≤ GREATEST_FRAME)
 wire_long w can a f wire =
-    let sizes : (64 ≤ (send w f.frame.0).send.size) × ((send w f.frame.0).send.size ≤ 1522) = (is_direct w can).sizes f.frame.0 wire.known in
+    let sizes : (64 ≤ (send w f.frame.0).send.size) × ((send w f.frame.0).send.size ≤ GREATEST_FRAME) = (is_direct w can).sizes f.frame.0 wire.known in
     let low : 26 ≤ (send w f.frame.0).send.size = omega (arith, sizes.0) in
     let long : length f.octets.items ≡ (send w f.frame.0).send.size = ap length wire.octets ∙ length-frame_of (destination w f.frame.0) (source w f.frame.0) (row w f.frame.0).prio (row w f.frame.0).vid f.frame.0 (send w f.frame.0).send.size low in
     (omega (arith, long, sizes.0), omega (arith, long, sizes.1))

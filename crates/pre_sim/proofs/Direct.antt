@@ -97,11 +97,16 @@ module _ (w : Scenario) (can : CanRun w.net w.streams w.script) where
   pub known_arc : (f a : ℕ) → f < length w.script.sends → Contains (hops w f) a → a < length w.net.arcs
   known_arc f a lt (i, in_hops, is) = subst (λ n. n < length w.net.arcs) is (known_hop f i a lt in_hops)
 
-  all_off : (f : ℕ) → f < length w.script.sends → (row w f).prio < w.net.express_from → All (λ a. (arc w a).mode ≡ mode.Off) (hops w f)
-  all_off f lt low i d in_hops =
+  all_off : (f : ℕ) → f < length w.script.sends → All (λ a. (row w f).prio < (arc w a).express_from → (arc w a).mode ≡ mode.Off) (hops w f)
+  all_off f lt i d in_hops low =
       let r = known_row f lt in
       let rules = row_is f lt in
-      let flow : is_some (row w f).curve ≡ false = false_from_ne_true (is_some (row w f).curve) (λ some. let high : w.net.express_from ≤ (row w f).prio = rules.stream some in omega (arith, low, high)) in
+      let hop : ℕ = (slice_index_or (row w f).arcs i (record { 0 = d })).0 in
+      let its : slice_index_or (hops w f) i d ≡ hop = index_map (row w f).arcs i d in
+      let hop_in : i < length (row w f).arcs = omega (arith, in_hops, hops_long w f) in
+      let known : hop < length w.net.arcs = subst (λ n. n < length w.net.arcs) its (known_hop f i d lt in_hops) in
+      let found : slice_get w.net.arcs hop ≡ Some (arc w hop) = slice_get-get_or w.net.arcs hop no_arc known in
+      let flow : is_some (row w f).curve ≡ false = false_from_ne_true (is_some (row w f).curve) (λ some. let high = rules.stream some i (record { 0 = d }) hop_in (arc w hop) found in omega (arith, low, ap (λ n. (arc w n).express_from) its, high)) in
       let may : IsTrue (may_be_sent w.net (row w f)) = subst (λ x. IsTrue (may_be_sent w.net x)) (sym r.2) r.5 in
       let all = or_false (is_some (row w f).curve) (list_all (λ (x : ArcId). is_off_at w.net x.0) (row w f).arcs) flow may in
       let here = all_at (λ (x : ArcId). is_off_at w.net x.0) (row w f).arcs all i (record { 0 = d }) (omega (arith, in_hops, hops_long w f)) in
@@ -128,5 +133,5 @@ module _ (w : Scenario) (can : CanRun w.net w.streams w.script) where
   is_plain = record { direct = is_direct; silent = can.modes }
 
   -- a frame of the route goes whole over the arc
-  pub off_on_route : (f a : ℕ) → f < length w.script.sends → Contains (hops w f) a → (row w f).prio < w.net.express_from → (arc w a).mode ≡ mode.Off
-  off_on_route f a lt (i, in_hops, is) low = subst (λ n. (arc w n).mode ≡ mode.Off) is (all_off f lt low i a in_hops)
+  pub off_on_route : (f a : ℕ) → f < length w.script.sends → Contains (hops w f) a → (row w f).prio < (arc w a).express_from → (arc w a).mode ≡ mode.Off
+  off_on_route f a lt (i, in_hops, is) = subst (λ n. (row w f).prio < (arc w n).express_from → (arc w n).mode ≡ mode.Off) is (all_off f lt i a in_hops)

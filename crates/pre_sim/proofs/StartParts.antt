@@ -147,10 +147,10 @@ module _ (laws : Laws) (w : Scenario) (can : CanRun w.net w.streams w.script) (t
   busy_part not_free = still (λ h items legal is. busy_starts w h t a (talks h items legal is) is.on.whole (busy h items legal is not_free))
 
   -- no frame waits
-  pub calm_part : (link : Arc) → slice_get w.net.arcs a ≡ Some link → (least : ℕ) → least ≡ least_whole w.net.express_from link.mode → NoneWaits least lane.rings → (new : Lane) → new ≡ lane
+  pub calm_part : (link : Arc) → slice_get w.net.arcs a ≡ Some link → (least : ℕ) → least ≡ least_whole link.express_from link.mode → NoneWaits least lane.rings → (new : Lane) → new ≡ lane
       → (store : Store) → LanePart w t k a 0 (t + 1) store store lane new [] []
   calm_part link found least is_least none new same =
-      let its : least ≡ least_whole w.net.express_from (arc w a).mode = is_least ∙ ap (λ (l : Arc). least_whole w.net.express_from l.mode) (sym (read_at w.net.arcs a link no_arc found)) in
+      let its : least ≡ least_whole (arc w a).express_from (arc w a).mode = is_least ∙ ap (λ (l : Arc). least_whole l.express_from l.mode) (sym (read_at w.net.arcs a link no_arc found)) in
       let empty : (p : ℕ) → frames_at lane.rings p ≡ [] = none_at_all w can store a lane.rings keeps.eight keeps.waiting (subst (λ m. NoneWaits m lane.rings) its none) in
       subst (λ (l : Lane). (x : Store) → LanePart w t k a 0 (t + 1) x x lane l [] []) (sym same)
       (still (λ h items legal is. idle_starts w h t a (talks h items legal is) is.on.whole (λ p. none_waits h items legal is p (empty p))))

@@ -34,19 +34,19 @@ none_beyond rings eight p lt = get_or_past rings.frames p [] (omega (arith, eigh
 
 module _ (w : Scenario) (can : CanRun w.net w.streams w.script) (store : Store) (a : ℕ) where
   -- a frame that waits goes whole, where it isn't express
-  pub goes_whole : (p : ℕ) (f : FrameRef) → Waits w store a p f → p < w.net.express_from → (arc w a).mode ≡ mode.Off
+  pub goes_whole : (p : ℕ) (f : FrameRef) → Waits w store a p f → p < (arc w a).express_from → (arc w a).mode ≡ mode.Off
   goes_whole p f is lt = off_on_route w can f.frame.0 a is.frame.known is.over (omega (arith, lt, is.ring, is.frame.prio))
 
   -- below the least priority of which frames go whole none waits
-  none_below : (p : ℕ) (frames : List FrameRef) (m : Mode) → (arc w a).mode ≡ m → Every (Waits w store a p) frames → p < least_whole w.net.express_from m → frames ≡ []
+  none_below : (p : ℕ) (frames : List FrameRef) (m : Mode) → (arc w a).mode ≡ m → Every (Waits w store a p) frames → p < least_whole (arc w a).express_from m → frames ≡ []
   none_below p [] m at all lt = refl
   none_below p (f ∷ fs) mode.Off at all lt = absurd (omega (arith, lt))
   none_below p (f ∷ fs) mode.On at (here, more) lt = let off = goes_whole p f here lt in absurd (cc (sym at ∙ off))
   none_below p (f ∷ fs) mode.Negotiate at (here, more) lt = let off = goes_whole p f here lt in absurd (cc (sym at ∙ off))
 
   -- where none waits from there on, none waits at all
-  pub none_at_all : (rings : Port) → IsPort rings → ((p : ℕ) → Every (Waits w store a p) (frames_at rings p)) → NoneWaits (least_whole w.net.express_from (arc w a).mode) rings → (p : ℕ) → frames_at rings p ≡ []
-  none_at_all rings eight waiting none p = elim (cases_lt p (least_whole w.net.express_from (arc w a).mode)) [
+  pub none_at_all : (rings : Port) → IsPort rings → ((p : ℕ) → Every (Waits w store a p) (frames_at rings p)) → NoneWaits (least_whole (arc w a).express_from (arc w a).mode) rings → (p : ℕ) → frames_at rings p ≡ []
+  none_at_all rings eight waiting none p = elim (cases_lt p (least_whole (arc w a).express_from (arc w a).mode)) [
     | inl below ↦ none_below p (frames_at rings p) (arc w a).mode refl (waiting p) below
     | inr from ↦ elim (cases_lt 7 p) [
       | inl beyond ↦ none_beyond rings eight p beyond
@@ -105,14 +105,14 @@ module _ (w : Scenario) (h : History) (t a : ℕ) (talks : (arc w a).mode ≢ mo
     begins = PlainEvent.begin (record { tick = t; arc = a; ord = length (Begins h a); kind = kind.Express; what = what.Frame frame; from = 0 })
 
     -- an express frame comes first
-    express_starts : w.net.express_from ≤ prio → HappensIn w h t (Phase.starts a) (begins ∷ [])
+    express_starts : (arc w a).express_from ≤ prio → HappensIn w h t (Phase.starts a) (begins ∷ [])
     unfolding HappensIn StartRule
     express_starts from =
-        let first : IsFront w h a t w.net.express_from 8 frame.0 = (prio, from, below, (behind, front), λ q lt lt'. above q lt) in
+        let first : IsFront w h a t (arc w a).express_from 8 frame.0 = (prio, from, below, (behind, front), λ q lt lt'. above q lt) in
         inl (begins, (whole_frame frame.0 kind.Express, (free, (Item.express, (frame.0, first, refl), λ j d lt. nothing_before j d lt)), refl), refl)
 
     -- nothing else is there, where it isn't express
-    nothing_else : prio < w.net.express_from → (i : Item) (c : Choice) → place i < 6 → There w h a t i c → ⊥
+    nothing_else : prio < (arc w a).express_from → (i : Item) (c : Choice) → place i < 6 → There w h a t i c → ⊥
     nothing_else low Item.express c lt (f, (p, from, to, (behind', has), others), so) = cc (above p (omega (arith, low, from)), has)
     nothing_else low Item.respond c lt (negotiates, more, so) = talks negotiates
     nothing_else low Item.verify c lt (negotiates, more, so) = talks negotiates
@@ -121,16 +121,16 @@ module _ (w : Scenario) (h : History) (t a : ℕ) (talks : (arc w a).mode ≢ mo
     nothing_else low Item.preemptable c lt there' = omega (arith, lt)
 
     -- then a preemptable one goes whole, on an arc that never preempts
-    preemptable_starts : prio < w.net.express_from → (arc w a).mode ≡ mode.Off → HappensIn w h t (Phase.starts a) (begins ∷ [])
+    preemptable_starts : prio < (arc w a).express_from → (arc w a).mode ≡ mode.Off → HappensIn w h t (Phase.starts a) (begins ∷ [])
     unfolding HappensIn StartRule
     preemptable_starts low off =
-        let first : IsFront w h a t 0 w.net.express_from frame.0 = (prio, omega arith, low, (behind, front), λ q lt lt'. above q lt) in
+        let first : IsFront w h a t 0 (arc w a).express_from frame.0 = (prio, omega arith, low, (behind, front), λ q lt lt'. above q lt) in
         let goes : PreemptableAs w h a t kind.Express = inr (off_never off, inl off, refl) in
         inl (begins, (whole_frame frame.0 kind.Express, (free, (Item.preemptable, (frame.0, kind.Express, first, goes, refl), λ j d lt. nothing_else low j d lt)), refl), refl)
 
     -- the frame that is due begins on a free arc
-    pub frame_starts : (prio < w.net.express_from → (arc w a).mode ≡ mode.Off) → HappensIn w h t (Phase.starts a) (begins ∷ [])
-    frame_starts goes = elim (cases_lt prio w.net.express_from) [
+    pub frame_starts : (prio < (arc w a).express_from → (arc w a).mode ≡ mode.Off) → HappensIn w h t (Phase.starts a) (begins ∷ [])
+    frame_starts goes = elim (cases_lt prio (arc w a).express_from) [
       | inl low ↦ preemptable_starts low (goes low)
       | inr high ↦ express_starts high
     ]

@@ -2,6 +2,7 @@
 -- two stand in one slot. What is on a wire has octets of its own.
 use Rattle.std.specs.Prelude.{ℕ, ◌+◌, ◌≡◌, ◌<◌, ◌≤◌, ◌==◌, List, [], ◌∷◌, ◌++◌, length, map, count_by, set, slice_get, Contains, Option, Some, None, IfSome}
 use Rattle.std.specs.List.{sum_by, AllByRecursion as Every}
+use Rattle.pre_base.specs.declared.limits.TheConstants.{LEAST_FRAME}
 use Rattle.pre_base.specs.declared.numbers.FrameNo.{FrameNo}
 use Rattle.pre_rings.specs.declared.slots.FrameRef.{FrameRef}
 use Rattle.pre_rings.specs.Ports.{IsPort, frames_at}
@@ -26,7 +27,7 @@ pub record IsFrameOf (w : Scenario) (store : Store) (f : FrameRef) : Type 0 wher
   pub prio : f.prio ≡ (row w f.frame.0).prio
   pub vid : f.vid ≡ (row w f.frame.0).vid
   pub size : f.size ≡ (send w f.frame.0).send.size
-  pub long : 64 ≤ f.size
+  pub long : LEAST_FRAME ≤ f.size
   pub held : HoldsAt store f.slot (FrameOf w f.frame.0)
 
 -- the frame's route goes over the arc
@@ -50,7 +51,7 @@ pub record IsOnWire (w : Scenario) (a : ℕ) (f : Flight) : Type 0 where
   pub prio : f.prio ≡ (row w f.frame.0).prio
   pub vid : f.vid ≡ (row w f.frame.0).vid
   pub octets : f.octets.items ≡ FrameOf w f.frame.0
-  pub long : 64 ≤ (send w f.frame.0).send.size
+  pub long : LEAST_FRAME ≤ (send w f.frame.0).send.size
   pub over : GoesOver w f.frame a
 
 -- The frame is inside a bridge, and goes on over the arc by which it leaves.

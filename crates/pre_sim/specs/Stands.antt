@@ -2,6 +2,7 @@
 -- where nothing is told.
 use Rattle.std.specs.Prelude.{ℕ, suc, ◌+◌, ◌-◌, ◌*◌, ◌<◌, ◌≤◌, ◌≡◌, ◌≢◌, ◌==◌, ◌&&◌, not, Bool, if◌then◌else◌, List, [], ◌∷◌, length, map, filter, filter_map, take, drop, count_by, Option, Some, None, MatchOption, slice_get, option_map, option_and_then}
 use Rattle.std.specs.List.{list_any, AllByRecursion as Every}
+use Rattle.pre_base.specs.declared.limits.TheConstants.{GAP}
 use Rattle.pre_base.specs.declared.numbers.FrameNo.{FrameNo}
 use Rattle.pre_mpacket.specs.declared.packets.Kind.TheVariants as kind
 use Rattle.pre_rings.specs.Ports.{Port, frames_at}
@@ -72,8 +73,8 @@ AreFlying w a begins (f ∷ fs) (e ∷ es) = IsFlying w a begins f e × AreFlyin
 
 -- The tick is the end of the gap of twelve octets behind the last end, and 0 where none ended.
 pub record IsFreeFrom (w : Scenario) (a : ℕ) (ends : List Ended) (tick : ℕ) : Type 0 where
-  pub behind : Every (λ e. e.tick + 12 * (arc w a).cost ≤ tick) ends
-  pub least : 0 < tick → (e : Ended) × (slice_get ends (length ends - 1) ≡ Some e) × (tick ≡ e.tick + 12 * (arc w a).cost)
+  pub behind : Every (λ e. e.tick + GAP * (arc w a).cost ≤ tick) ends
+  pub least : 0 < tick → (e : Ended) × (slice_get ends (length ends - 1) ≡ Some e) × (tick ≡ e.tick + GAP * (arc w a).cost)
 
 -- a whole frame
 pub record IsWholeBegin (b : Begin) : Type 0 where

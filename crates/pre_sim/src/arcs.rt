@@ -1,4 +1,5 @@
 ghost use Rattle.std.specs.Prelude.{◌≡◌, ◌<◌, ◌≤◌, ◌+◌, ◌*◌, ◌^◌, IfOk, IfErr, List, [], length};
+ghost use Rattle.pre_base.specs.declared.limits.TheConstants.{GREATEST_FRAME};
 ghost use Rattle.pre_rings.specs.Stores.{IsOut};
 ghost use Rattle.pre_bridge.specs.declared.relays.Relay.{Relay};
 ghost use Rattle.pre_bridge.specs.Inside.{Call};
@@ -17,7 +18,7 @@ use crate::halts::Halt;
 use crate::lanes::{Flight, Lane, Sending, take_first};
 use crate::plans::{Plan, arc_at};
 use crate::telling::tell;
-use pre_base::{ArcId, Prio, Tick};
+use pre_base::{ArcId, GAP, HEAD, Prio, Tick};
 use pre_bridge::{Relay, route_law};
 use pre_mpacket::Kind;
 use pre_rings::{FrameRef, FrameStore, PortRings};
@@ -72,7 +73,7 @@ pub(crate) fn end_on<W: Watcher>(
         size: frame.size,
         check: check_of(octets.as_slice()),
     };
-    lane.free_from = Tick(now.0 + 12 * link.cost);
+    lane.free_from = Tick(now.0 + GAP * link.cost);
     lane.flying.push(Flight {
         frame: frame.frame,
         prio: frame.prio,
@@ -130,7 +131,7 @@ fn keep_inside(
     store: &mut FrameStore,
 ) -> Result<bool, Halt>
     requires now { now.0 ≤ 4 * 10 ^ 12 }
-    requires size { length flight.now.octets.items ≤ 1522 }
+    requires size { length flight.now.octets.items ≤ GREATEST_FRAME }
     requires latest { relay.old.latest.0 ≤ now.0 }
     ensures inside { IfOk result (KeepsInside now.0 arc.0 flight.now store.old store.new relay.old relay.new) }
     ensures memory { IfErr result (λ e. e ≡ Memory) }
@@ -186,7 +187,7 @@ fn deliver<W: Watcher>(
     watcher: &mut W,
 ) -> Result<(), Halt>
     requires arc { arc.0 < length net.now.arcs }
-    requires size { (1 ≤ length flight.now.octets.items) × (length flight.now.octets.items ≤ 1522) }
+    requires size { (1 ≤ length flight.now.octets.items) × (length flight.now.octets.items ≤ GREATEST_FRAME) }
     ensures one { TellsOne net.now result (W.took watcher.old) (W.took watcher.new) (W.torn watcher.new) (delivered_at net.now now.0 arc.0 flight.now) }
     ensures cause { HasCause (W.faults watcher.old) (W.faults watcher.new) result }
     ensures same { W.same watcher.old watcher.new }
@@ -241,12 +242,13 @@ pub(crate) fn enter<W: Watcher>(
 }
 
 /// The least priority of which frames go whole on an arc: on one that never preempts all do, else the express ones.
-fn least_whole(net: &Network, arc: &Arc) -> Prio
-    ensures { result ≡ least_whole net.now.express_from arc.now.mode }
+fn least_whole(arc: &Arc) -> Prio
+    requires { arc.now.express_from ≤ 7 }
+    ensures { result ≡ least_whole arc.now.express_from arc.now.mode }
 {
     match arc.mode {
         Mode::Off => Prio(0),
-        Mode::On | Mode::Negotiate => Prio(net.express_from),
+        Mode::On | Mode::Negotiate => Prio(arc.express_from),
     }
 }
 
@@ -272,13 +274,13 @@ pub(crate) fn start_on<W: Watcher>(
         return Ok(());
     }
     let link = arc_at(plan.net, arc);
-    let Some(frame) = take_first(&mut lane.rings, least_whole(plan.net, link)) else {
+    let Some(frame) = take_first(&mut lane.rings, least_whole(link)) else {
         return Ok(());
     };
     let number = frame.frame;
     let ord = lane.begun;
     lane.begun = ord.saturating_add(1);
-    let duration = link.cost * (u64::from(frame.size) + 8);
+    let duration = link.cost * (u64::from(frame.size) + HEAD);
     lane.sending = Some(Sending {
         frame,
         ord,

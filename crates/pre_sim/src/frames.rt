@@ -1,4 +1,5 @@
 ghost use Rattle.std.specs.Prelude.{◌≡◌, ◌<◌, ◌≤◌, ◌++◌, IfOk, IfErr, length, drop, slice_get, Some};
+ghost use Rattle.pre_base.specs.declared.limits.TheConstants.{LEAST_FRAME, GREATEST_FRAME};
 ghost use Rattle.pre_streams.specs.Rows.{IsRow};
 ghost use Rattle.pre_history.specs.Scenario.{row, send, FrameOf};
 ghost use Rattle.pre_history.specs.Comings as comings;
@@ -10,18 +11,15 @@ ghost use Rattle.pre_sim.specs.Parts.{scenario_of};
 
 use crate::halts::Halt;
 use crate::plans::Plan;
-use pre_base::{ArcId, FrameNo, Prio};
+use pre_base::{ArcId, FrameNo, GREATEST_FRAME, Prio};
 use pre_frame::build;
 use pre_rings::{FrameRef, FrameStore, Slot};
 use pre_streams::Row;
 use pre_topo::Network;
 
-/// The greatest frame, in octets.
-const MAX_FRAME: usize = 1522;
-
 /// Puts octets into a slot that was in. Without one there is no memory for them.
 pub(crate) fn stored(store: &mut FrameStore, octets: &[u8]) -> Result<Slot, Halt>
-    requires { length octets.now ≤ 1522 }
+    requires { length octets.now ≤ GREATEST_FRAME }
     ensures stored { IfOk result (λ slot. IsStored store.old octets.now slot store.new) }
     ensures memory { IfErr result (λ e. e ≡ Memory) }
 {
@@ -41,7 +39,7 @@ pub(crate) fn frame_of(plan: &Plan, number: usize, store: &mut FrameStore) -> Re
     ensures stored { IfOk result (λ f. IsStored store.old (FrameOf (scenario_of plan.now) number) f.slot store.new) }
     ensures memory { IfErr result (λ e. e ≡ Memory) }
 {
-    let mut octets = [0u8; MAX_FRAME];
+    let mut octets = [0u8; GREATEST_FRAME as usize];
     let size = put_frame(plan, number, &mut octets);
     let row = row_of(plan, number);
     let slot = stored(store, &octets[..size])?;
@@ -55,11 +53,11 @@ pub(crate) fn frame_of(plan: &Plan, number: usize, store: &mut FrameStore) -> Re
 }
 
 /// The octets of the frame of a send at the front of `into`: how many there are.
-fn put_frame(plan: &Plan, number: usize, into: &mut [u8; MAX_FRAME]) -> usize
+fn put_frame(plan: &Plan, number: usize, into: &mut [u8; GREATEST_FRAME as usize]) -> usize
     requires can { CanRun plan.now.net.now plan.now.streams.now plan.now.script.now }
     requires known { number < length plan.now.script.now.sends }
     ensures size { result ≡ (send (scenario_of plan.now) number).send.size }
-    ensures range { (64 ≤ result) × (result ≤ 1522) }
+    ensures range { (LEAST_FRAME ≤ result) × (result ≤ GREATEST_FRAME) }
     ensures octets { into.new ≡ FrameOf (scenario_of plan.now) number ++ drop result into.old }
 {
     let size = plan.script.sends.as_slice()[number].send.size;

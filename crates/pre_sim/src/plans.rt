@@ -21,6 +21,7 @@ pub(crate) fn arc_at<'a>(net: &'a Network, arc: ArcId) -> &'a Arc
     ensures found { slice_get net.now.arcs arc.0 ≡ Some result.now }
     ensures cost { (1 ≤ result.now.cost) × (result.now.cost ≤ 1000) }
     ensures delay { result.now.delay ≤ 10 ^ 9 }
+    ensures express { result.now.express_from ≤ 7 }
     ensures end { result.now.to.0 < length net.now.nodes }
 {
     &net.arcs.as_slice()[arc.0 as usize]

@@ -13,7 +13,7 @@ use Rattle.pre_topo.specs.declared.network.Network.{Network}
 use Rattle.pre_streams.specs.declared.faults.StreamFault.TheVariants.{Count}
 use Rattle.pre_streams.specs.declared.raw.RawStreams.{RawStreams}
 use Rattle.pre_streams.specs.declared.raw.RawFlow.{RawFlow}
-use Rattle.pre_streams.specs.FileRules.{name_breaks, name_fault, is_named, entry_breaks, other_route, hop_fault, route_fault, class_breaks, class_fault, row_in_range, curve_in_range, range_breaks, range_fault, burst_breaks, burst_fault, counts_hold, raw_fault}
+use Rattle.pre_streams.specs.FileRules.{name_breaks, name_fault, is_named, entry_breaks, other_route, hop_fault, route_fault, class_breaks, class_fault, row_in_range, curve_in_range, is_carried, range_breaks, range_fault, burst_breaks, burst_fault, counts_hold, raw_fault}
 use Rattle.pre_streams.specs.Holds.{Holds}
 use Rattle.pre_table.specs.NoFaults.{first_none, map_none, unless_none, none_passes, none_breaks, none_before}
 
@@ -56,15 +56,19 @@ module _ (net : Network) (raw : RawStreams) where
   hops_hold none k d within =
       not_some (hop_fault net raw.rows (get_or raw.rows k d)) (none_passes (λ r. is_some (hop_fault net raw.rows r)) raw.rows (placed (hop_fault net raw.rows) raw.rows (map_none _ _ none)) k d within)
 
-  class_holds : class_fault net raw ≡ None → (k : ℕ) (d : RawFlow) → k < length raw.rows → class_breaks net.express_from raw.curves k (get_or raw.rows k d) ≡ false
+  class_holds : class_fault net raw ≡ None → (k : ℕ) (d : RawFlow) → k < length raw.rows → class_breaks net raw.curves k (get_or raw.rows k d) ≡ false
   unfolding class_fault
-  class_holds none = none_breaks (class_breaks net.express_from raw.curves) raw.rows (map_none _ _ none)
+  class_holds none = none_breaks (class_breaks net raw.curves) raw.rows (map_none _ _ none)
 
-  ranges_hold : range_fault raw ≡ None → (k : ℕ) (d : RawFlow) → k < length raw.rows → IsTrue (row_in_range (get_or raw.rows k d)) × IsTrue (option_map_or curve_in_range (slice_get raw.curves k) true)
+  ranges_hold : range_fault net raw ≡ None → (k : ℕ) (d : RawFlow) → k < length raw.rows
+      → IsTrue (row_in_range (get_or raw.rows k d)) × IsTrue (option_map_or curve_in_range (slice_get raw.curves k) true) × IsTrue (is_carried net raw.curves k (get_or raw.rows k d))
   unfolding range_fault
   ranges_hold none k d within =
-      and_parts (row_in_range (get_or raw.rows k d)) (option_map_or curve_in_range (slice_get raw.curves k) true)
-      (not-false (row_in_range (get_or raw.rows k d) && option_map_or curve_in_range (slice_get raw.curves k) true) (none_breaks (range_breaks raw.curves) raw.rows (map_none _ _ none) k d within))
+      let row = get_or raw.rows k d in
+      let numbers = row_in_range row && option_map_or curve_in_range (slice_get raw.curves k) true in
+      let (two, carried) = and_parts numbers (is_carried net raw.curves k row) (not-false (numbers && is_carried net raw.curves k row) (none_breaks (range_breaks net raw.curves) raw.rows (map_none _ _ none) k d within)) in
+      let (in_range, curve) = and_parts (row_in_range row) (option_map_or curve_in_range (slice_get raw.curves k) true) two in
+      (in_range, curve, carried)
 
   bursts_hold : burst_fault raw ≡ None → (k : ℕ) (d : RawFlow) → k < length raw.rows → burst_breaks raw.curves k (get_or raw.rows k d) ≡ false
   unfolding burst_fault
@@ -75,7 +79,7 @@ module _ (net : Network) (raw : RawStreams) where
       let (names, behind_names) = first_none (name_fault raw) _ none in
       let (routes, behind_routes) = first_none (route_fault net raw) _ behind_names in
       let (class, behind_class) = first_none (class_fault net raw) _ behind_routes in
-      let (range, behind_range) = first_none (range_fault raw) _ behind_class in
+      let (range, behind_range) = first_none (range_fault net raw) _ behind_class in
       let (burst, behind_burst) = first_none (burst_fault raw) _ behind_range in
       let (count, behind_count) = first_none _ _ behind_burst in
       let named = names_hold names in
@@ -90,6 +94,7 @@ module _ (net : Network) (raw : RawStreams) where
         class = class_holds class;
         rows = λ k d within. (ranges k d within).0;
         curves = λ k within. (ranges k (default_row) within).1;
+        carried = λ k d within. (ranges k d within).2;
         bursts = bursts_hold burst;
         streams_count = leb-true (length raw.curves) 256 counts.0;
         flows_count = leb-true (length raw.rows) (length raw.curves + 256) counts.1;

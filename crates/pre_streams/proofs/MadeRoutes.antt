@@ -16,8 +16,8 @@ use Rattle.pre_topo.specs.declared.nodes.Node.{Node}
 use Rattle.pre_topo.specs.declared.nodes.NodeKind.{NodeKind}
 use Rattle.pre_topo.specs.declared.nodes.NodeKind.TheVariants.{Station, Bridge}
 use Rattle.pre_topo.specs.Pair.{station, pair_arc}
-use Rattle.pre_streams.specs.FileRules.{has_name, node_place, is_station, is_station_at, leads, arc_place, is_end, is_linked, is_reached, has_kind_for, entry_breaks, length_in_range}
-use Rattle.pre_streams.specs.Made.{node_id, arc_id, arcs_along, route_made}
+use Rattle.pre_streams.specs.NamedRoutes.{has_name, node_place, leads, arc_place, node_id, arc_id, arcs_along, route_made}
+use Rattle.pre_streams.specs.FileRules.{is_station, is_station_at, is_end, is_linked, is_reached, has_kind_for, entry_breaks, length_in_range}
 use Rattle.pre_streams.specs.Rows.{IsOfKind, Leads, IsRoute}
 use Rattle.pre_table.specs.NoFaults.{none_breaks, none_before}
 

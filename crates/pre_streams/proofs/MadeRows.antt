@@ -1,29 +1,34 @@
 -- Rows that raw rows without a fault make fit the network.
-use Rattle.std.proofs.Common.{◌≡◌, ◌≢◌, ℕ, zero, suc, ◌+◌, ◌-◌, ◌<◌, ◌≤◌, ◌^◌, ◌==◌, Bool, true, false, not, ◌&&◌, List, [], ◌∷◌, length, map, get_or, slice_get, max, Option, Some, None, is_some, is_none, IsNone, IfSome, option_map, All, AllPairs, count_by, nat_le, nat_lt, cond, if◌then◌else◌, refl, sym, ◌∙◌, ap, subst, arith, IsTrue, zero-add}
+use Rattle.std.proofs.Common.{◌≡◌, ◌≢◌, ℕ, zero, suc, ◌+◌, ◌-◌, ◌<◌, ◌≤◌, ◌^◌, ◌==◌, Bool, true, false, not, ◌&&◌, ◌||◌, List, [], ◌∷◌, length, map, get_or, slice_get, max, Option, Some, None, is_some, is_none, IsNone, IfSome, option_map, All, AllPairs, count_by, nat_le, nat_lt, cond, if◌then◌else◌, refl, sym, ◌∙◌, ap, subst, arith, IsTrue, zero-add}
 use Rattle.std.specs.List.{find, common_prefix_len, enumerate_from}
 use Rattle.std.specs.Option.{option_map_or}
 use Rattle.std.specs.Str.{bytes_eq}
 use Rattle.std.specs.Cmp.Lexicographic.{same_text}
-use Rattle.std.proofs.lemmas.Bool.{and_parts, leb-true, ltb-false, ltb-true, lt-ltb, le-ltb, eqb-true, eq-eqb, true≢false, not-false}
+use Rattle.std.proofs.lemmas.Bool.{and_parts, leb-true, ltb-false, ltb-true, lt-ltb, le-ltb, eqb-true, eq-eqb, true≢false, not-false, not-true}
 use Rattle.std.proofs.lemmas.Option.{same_Some, slice_get-get_or, slice_get_within, slice_get_past}
 use Rattle.std.proofs.lemmas.List.{length-map, get_or-map}
 use Rattle.std.proofs.lemmas.List.FromFn.{length-enumerate_from, get_or-enumerate_from}
-use Rattle.std.proofs.lemmas.List.Sums.{sum_by-cons}
+use Rattle.std.proofs.lemmas.List.Sums.{sum_by-cons, AllPass-from_list_all}
 use Rattle.pre_text.specs.Words.{is_name}
+use Rattle.pre_base.specs.declared.limits.TheConstants.{LEAST_FRAME, GREATEST_FRAME, OVERHEAD}
 use Rattle.pre_curve.specs.declared.curves.Curve.{Curve}
 use Rattle.pre_table.specs.declared.values.Whole.{Whole}
 use Rattle.pre_table.specs.declared.values.Whole.TheVariants.{Negative, Natural}
-use Rattle.pre_table.specs.Values.{natural, is_within, is_below, same_whole}
+use Rattle.pre_table.specs.Values.{natural, is_within, same_whole}
 use Rattle.pre_topo.specs.declared.network.Network.{Network}
+use Rattle.pre_topo.specs.declared.arcs.Arc.{Arc}
+use Rattle.pre_streams.specs.declared.arc_rules.ArcRule.{ArcRule}
+use Rattle.pre_streams.specs.declared.arc_rules.ArcRule.TheVariants.{Express, Preemptable, Carries}
 use Rattle.pre_streams.specs.declared.raw.RawStreams.{RawStreams}
 use Rattle.pre_streams.specs.declared.raw.RawCurve.{RawCurve}
 use Rattle.pre_streams.specs.declared.raw.RawFlow.{RawFlow}
 use Rattle.pre_streams.specs.declared.rows.Row.{Row}
 use Rattle.pre_streams.specs.declared.rows.Streams.{Streams}
-use Rattle.pre_streams.specs.FileRules.{curve_in_range, difference, has_vid, length_in_range, other_route, raw_fault}
+use Rattle.pre_streams.specs.FileRules.{meets, meets_at, holds_along, class_rule, curve_in_range, difference, has_vid, length_in_range, other_route, raw_fault}
 use Rattle.pre_streams.specs.Holds.{Holds}
-use Rattle.pre_streams.specs.Made.{RowParts, arcs_along, curve_made, curve_parts, route_made, row_made, row_parts, rows_made}
-use Rattle.pre_streams.specs.Rows.{IsCurveOf, IsRoute, IsRow}
+use Rattle.pre_streams.specs.NamedRoutes.{arcs_along, route_made}
+use Rattle.pre_streams.specs.Made.{RowParts, curve_made, curve_parts, row_made, row_parts, rows_made}
+use Rattle.pre_streams.specs.Rows.{IsCurveOf, IsRoute, IsRow, OnEach}
 use Rattle.pre_streams.specs.Fits.{Fits, SharesRoute}
 use Rattle.pre_streams.proofs.Faultless.{faultless, default_row}
 use Rattle.pre_streams.proofs.MadeRoutes.{route_is, same_octets, some_there}
@@ -34,13 +39,18 @@ within low high (Natural n) is =
     let (least, most) = and_parts (nat_le low n) (nat_le n high) is in
     (leb-true low n least, leb-true n high most)
 
-not_below : (limit : ℕ) (w : Whole) → is_below limit w ≡ false → limit ≤ natural w
-not_below limit (Negative n) is = cc
-not_below limit (Natural n) is = ltb-false n limit is
+express_there : (prio : Whole) (a : Arc) → meets (Express prio) a ≡ true → a.express_from ≤ natural prio
+express_there (Negative n) a is = cc
+express_there (Natural n) a is = ltb-false n a.express_from (not-true (nat_lt n a.express_from) is)
 
-below : (limit : ℕ) (w : Whole) → 1 ≤ limit → is_below limit w ≡ true → natural w < limit
-below limit (Negative n) some is = omega arith
-below limit (Natural n) some is = ltb-true n limit is
+preemptable_there : (prio : Whole) (a : Arc) → IsTrue (is_within 0 7 prio) → meets (Preemptable prio) a ≡ true → natural prio < a.express_from
+preemptable_there (Negative n) a in_ is = cc
+preemptable_there (Natural n) a in_ is = ltb-true n a.express_from is
+
+-- what holds along a route holds at each of its arcs
+on_each : (net : Network) (rule : ArcRule) (route : List (List ℕ)) → IsTrue (holds_along net rule route) → OnEach net (arcs_along net (route_made net route)) (λ a. meets rule a ≡ true)
+on_each net rule route holds k d in_ a at =
+    sym (ap (λ (o : Option Arc). option_map_or (meets rule) o false) at) ∙ AllPass-from_list_all (meets_at net rule) (arcs_along net (route_made net route)) holds k d in_
 
 one_number : (low high : ℕ) (v w : Whole) → IsTrue (is_within low high v) → IsTrue (is_within low high w) → natural v ≡ natural w → v ≡ w
 one_number low high (Negative m) w v_in w_in same = cc
@@ -63,7 +73,7 @@ past_end curves k none = by_cases (nat_lt k (length curves)) refl
     by_cases true is = absurd (true≢false (sym (ap (λ (o : Option RawCurve). is_some o) (slice_get-get_or curves k (record { burst = Natural 0; rate = Natural 0 }) (ltb-true k (length curves) (sym is)))) ∙ none))
     by_cases false is = ltb-false k (length curves) (sym is)
 
-curve_fits : (limit : ℕ) (c : Option Curve) (o : Option RawCurve) → option_map curve_parts c ≡ option_map curve_made o → option_map_or curve_in_range o true ≡ true → option_map_or (λ w. nat_lt (natural w.burst) (limit + 20)) o false ≡ false → IfSome c (IsCurveOf limit)
+curve_fits : (limit : ℕ) (c : Option Curve) (o : Option RawCurve) → option_map curve_parts c ≡ option_map curve_made o → option_map_or curve_in_range o true ≡ true → option_map_or (λ w. nat_lt (natural w.burst) (limit + OVERHEAD)) o false ≡ false → IfSome c (IsCurveOf limit)
 curve_fits limit None o same range room = tt
 curve_fits limit (Some c) None same range room = cc
 curve_fits limit (Some c) (Some w) same range room =
@@ -73,7 +83,7 @@ curve_fits limit (Some c) (Some w) same range room =
     let (burst_in, rate_in) = and_parts (is_within 84 (10 ^ 9) w.burst) (is_within 1 (10 ^ 6) w.rate) range in
     let burst_range = within 84 (10 ^ 9) w.burst burst_in in
     let rate_range = within 1 (10 ^ 6) w.rate rate_in in
-    let enough = ltb-false (natural w.burst) (limit + 20) room in
+    let enough = ltb-false (natural w.burst) (limit + OVERHEAD) room in
     record { burst = (omega (arith, burst, burst_range.0), omega (arith, burst, burst_range.1)); rate = (omega (arith, rate, rate_range.0), omega (arith, rate, rate_range.1)); frame = omega (arith, burst, enough) }
 
 -- two routes without a difference are one
@@ -179,28 +189,35 @@ module _ (net : Network) (raw : RawStreams) (streams : Streams) (none : raw_faul
       let r = get_or streams.rows k d in
       let q = get_or raw.rows k default_row in
       let same = made_at k d in_ in
-      let (three, max_in) = and_parts ((is_within 1 4094 q.vid && is_within 0 7 q.prio) && length_in_range (length q.route)) (is_within 64 1522 q.max) (hold.rows k default_row raw_in) in
+      let (three, max_in) = and_parts ((is_within 1 4094 q.vid && is_within 0 7 q.prio) && length_in_range (length q.route)) (is_within LEAST_FRAME GREATEST_FRAME q.max) (hold.rows k default_row raw_in) in
       let (two, long) = and_parts (is_within 1 4094 q.vid && is_within 0 7 q.prio) (length_in_range (length q.route)) three in
       let (vid_in, prio_in) = and_parts (is_within 1 4094 q.vid) (is_within 0 7 q.prio) two in
       let vid : r.vid ≡ natural q.vid = ap (λ (p : RowParts). p.vid) same in
       let prio : r.prio ≡ natural q.prio = ap (λ (p : RowParts). p.prio) same in
       let most : r.max ≡ natural q.max = ap (λ (p : RowParts). p.max) same in
       let vid_range = within 1 4094 q.vid vid_in in
-      let max_range = within 64 1522 q.max max_in in
-      let class = hold.class k default_row raw_in in
+      let max_range = within LEAST_FRAME GREATEST_FRAME q.max max_in in
+      let arcs : r.arcs ≡ arcs_along net (route_made net q.route) = ap (λ (p : RowParts). p.arcs) same in
+      let class = not-false (holds_along net (class_rule raw.curves k q) q.route) (hold.class k default_row raw_in) in
+      let on_way = λ (rule : ArcRule) (holds : IsTrue (holds_along net rule q.route)). subst (λ ids. OnEach net ids (λ a. meets rule a ≡ true)) (sym arcs) (on_each net rule q.route holds) in
       record {
         name = subst (λ n. IsTrue (is_name n)) (sym (ap (λ (p : RowParts). p.name) same)) (hold.names k default_row raw_in);
         vid = (omega (arith, vid, vid_range.0), omega (arith, vid, vid_range.1));
         stream = λ some.
             let stream = some_there (slice_get raw.curves k) (sym (has_curve k d in_) ∙ some) in
             let first : nat_lt k (length raw.curves) ≡ true = lt-ltb k (length raw.curves) (slice_get_within raw.curves k stream.0 stream.1) in
-            let least = not_below net.express_from q.prio (sym (ap (λ b. cond b (is_below net.express_from q.prio) (not (is_below net.express_from q.prio))) first) ∙ class) in
-            omega (arith, prio, least);
+            let holds : IsTrue (holds_along net (Express q.prio) q.route) = sym (ap (λ b. holds_along net (cond b (Express q.prio) (Preemptable q.prio)) q.route) first) ∙ class in
+            λ i d in_ a at. let least = express_there q.prio a (on_way (Express q.prio) holds i d in_ a at) in omega (arith, prio, least);
         flow = λ absent.
             let past = past_end raw.curves k (sym (has_curve k d in_) ∙ absent) in
             let behind : nat_lt k (length raw.curves) ≡ false = le-ltb k (length raw.curves) past in
-            let less = below net.express_from q.prio net.rules.express.0 (not-false (is_below net.express_from q.prio) (sym (ap (λ b. cond b (is_below net.express_from q.prio) (not (is_below net.express_from q.prio))) behind) ∙ class)) in
-            omega (arith, prio, less);
+            let holds : IsTrue (holds_along net (Preemptable q.prio) q.route) = sym (ap (λ b. holds_along net (cond b (Express q.prio) (Preemptable q.prio)) q.route) behind) ∙ class in
+            λ i d in_ a at. let less = preemptable_there q.prio a prio_in (on_way (Preemptable q.prio) holds i d in_ a at) in omega (arith, prio, less);
+        largest = λ absent.
+            let past = past_end raw.curves k (sym (has_curve k d in_) ∙ absent) in
+            let behind : nat_lt k (length raw.curves) ≡ false = le-ltb k (length raw.curves) past in
+            let holds : IsTrue (holds_along net (Carries q.max) q.route) = sym (ap (λ b. b || holds_along net (Carries q.max) q.route) behind) ∙ hold.carried k default_row raw_in in
+            λ i d in_ a at. let fits = within 0 a.largest q.max (on_way (Carries q.max) holds i d in_ a at) in omega (arith, most, fits.1);
         route = subst (λ x. IsRoute net x r.arcs) (sym (ap (λ (p : RowParts). p.route) same))
             (subst (λ x. IsRoute net (route_made net q.route) x) (sym (ap (λ (p : RowParts). p.arcs) same)) (route_is net q.route (hold.entries k default_row raw_in) long));
         max = (omega (arith, most, max_range.0), omega (arith, most, max_range.1));
@@ -235,7 +252,7 @@ module _ (net : Network) (raw : RawStreams) (streams : Streams) (none : raw_faul
       vid_in : (k : ℕ) → k < length raw.rows → IsTrue (is_within 1 4094 (get_or raw.rows k default_row).vid)
       vid_in k k_in =
           let q = get_or raw.rows k default_row in
-          let (three, max_in) = and_parts ((is_within 1 4094 q.vid && is_within 0 7 q.prio) && length_in_range (length q.route)) (is_within 64 1522 q.max) (hold.rows k default_row k_in) in
+          let (three, max_in) = and_parts ((is_within 1 4094 q.vid && is_within 0 7 q.prio) && length_in_range (length q.route)) (is_within LEAST_FRAME GREATEST_FRAME q.max) (hold.rows k default_row k_in) in
           let (two, long) = and_parts (is_within 1 4094 q.vid && is_within 0 7 q.prio) (length_in_range (length q.route)) three in
           (and_parts (is_within 1 4094 q.vid) (is_within 0 7 q.prio) two).0
 

@@ -1,7 +1,7 @@
 -- The built-in streams fit the built-in network.
-use Rattle.std.proofs.Common.{◌≡◌, ◌≢◌, ℕ, zero, suc, ◌+◌, ◌≤◌, List, [], ◌∷◌, codes, slice_index_or, slice_get, Some, None, IsNone, unwrap_or, count_by, is_some, is_none, All, AllPairs, refl, sym, ap, subst, arith, lit≤}
+use Rattle.std.proofs.Common.{◌≡◌, ◌≢◌, ℕ, zero, suc, ◌+◌, ◌<◌, ◌≤◌, List, [], ◌∷◌, codes, slice_index_or, slice_get, Some, None, IsNone, unwrap_or, count_by, is_some, is_none, All, AllPairs, refl, sym, ◌∙◌, ap, subst, arith, lit≤}
 use Rattle.std.proofs.lemmas.Bool.{true≢false, false≢true}
-use Rattle.std.proofs.lemmas.Option.{none-some}
+use Rattle.std.proofs.lemmas.Option.{none-some, same_Some}
 use Rattle.pre_base.specs.declared.numbers.NodeId.{NodeId}
 use Rattle.pre_base.specs.declared.numbers.ArcId.{ArcId}
 use Rattle.pre_curve.specs.declared.curves.Curve.{Curve}
@@ -12,7 +12,7 @@ use Rattle.pre_topo.specs.declared.arcs.Arc.{Arc}
 use Rattle.pre_topo.specs.PairNetwork as network
 use Rattle.pre_topo.specs.Pair.{station, pair_arc}
 use Rattle.pre_streams.specs.declared.rows.Row.{Row}
-use Rattle.pre_streams.specs.Rows.{IsOfKind, Leads, IsRoute, IsRow}
+use Rattle.pre_streams.specs.Rows.{IsOfKind, Leads, IsRoute, IsRow, OnEach}
 use Rattle.pre_streams.specs.declared.rows.Streams.{Streams}
 use Rattle.pre_streams.specs.Fits.{Fits, SharesRoute}
 use Rattle.pre_streams.specs.PairStreams.{IsPair}
@@ -64,12 +64,17 @@ module _ (net : Network) (is : network.IsPair net) where
     leads = leads;
   }
 
+  on_the_hop : (rule : Arc → Type 0) → rule pair_arc → OnEach net pair_hops rule
+  on_the_hop rule holds zero d within a at = subst rule (same_Some pair_arc a (sym (ap (λ (arcs : List Arc). slice_get arcs 0) is.arcs) ∙ at)) holds
+  on_the_hop rule holds (suc i) d within a at = absurd (omega (arith, within))
+
   stream_row : (curve : Curve) → IsPairCurve curve → IsRow net (pair_row (codes "x") 10 6 (Some curve))
   stream_row curve of = record {
     name = refl;
     vid = (lit≤ tt, lit≤ tt);
-    stream = λ _. omega (arith, is.express_from);
+    stream = λ _. on_the_hop (λ a. a.express_from ≤ 6) (lit≤ tt);
     flow = λ e. absurd (true≢false e);
+    largest = λ e. absurd (true≢false e);
     route = route;
     max = (lit≤ tt, lit≤ tt);
     curve = record { burst = (omega (arith, of.burst), omega (arith, of.burst)); rate = (omega (arith, of.rate), omega (arith, of.rate)); frame = omega (arith, of.burst) };
@@ -80,7 +85,8 @@ module _ (net : Network) (is : network.IsPair net) where
     name = refl;
     vid = (lit≤ tt, lit≤ tt);
     stream = λ e. absurd (false≢true e);
-    flow = λ _. omega (arith, is.express_from);
+    flow = λ _. on_the_hop (λ a. 0 < a.express_from) (lit≤ tt);
+    largest = λ _. on_the_hop (λ a. 1522 ≤ a.largest) (lit≤ tt);
     route = route;
     max = (lit≤ tt, lit≤ tt);
     curve = tt;

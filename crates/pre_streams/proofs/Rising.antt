@@ -1,18 +1,26 @@
 -- Rows and arcs that are made one after another.
-use Rattle.std.proofs.Common.{◌≡◌, ℕ, suc, ◌+◌, ◌<◌, List, [], ◌∷◌, ◌++◌, length, map, take, get_or, slice_get, refl, sym, ◌∙◌, ap, arith, add-zero}
+use Rattle.std.proofs.Common.{◌≡◌, ℕ, suc, ◌+◌, ◌<◌, true, List, [], ◌∷◌, ◌++◌, length, map, take, get_or, slice_get, refl, sym, ◌∙◌, ap, arith, add-zero}
 use Rattle.std.specs.List.{enumerate_from}
 use Rattle.std.proofs.lemmas.List.{map_push, take_more, length-take}
 use Rattle.pre_base.specs.declared.numbers.NodeId.{NodeId}
 use Rattle.pre_topo.specs.declared.network.Network.{Network}
+use Rattle.pre_streams.specs.declared.arc_rules.ArcRule.{ArcRule}
 use Rattle.pre_streams.specs.declared.raw.RawCurve.{RawCurve}
 use Rattle.pre_streams.specs.declared.raw.RawFlow.{RawFlow}
 use Rattle.pre_streams.specs.declared.rows.Row.{Row}
-use Rattle.pre_streams.specs.Made.{arcs_along, row_made, row_parts, RowParts}
+use Rattle.pre_streams.specs.NamedRoutes.{arcs_along}
+use Rattle.pre_streams.specs.FileRules.{holds_along}
+use Rattle.pre_streams.specs.Made.{row_made, row_parts, RowParts}
 
 pub short_route : (net : Network) (route : List NodeId) → length route < 2 → arcs_along net route ≡ []
 short_route net [] short = refl
 short_route net (n ∷ []) short = refl
 short_route net (m ∷ n ∷ rest) short = absurd (omega arith)
+
+pub short_names : (net : Network) (rule : ArcRule) (route : List (List ℕ)) → length route < 2 → holds_along net rule route ≡ true
+short_names net rule [] short = refl
+short_names net rule (n ∷ []) short = refl
+short_names net rule (m ∷ n ∷ rest) short = absurd (omega arith)
 
 enumerate_push : {X : Type 0} (n : ℕ) (xs : List X) (x : X) → enumerate_from n (xs ++ x ∷ []) ≡ enumerate_from n xs ++ (n + length xs, x) ∷ []
 enumerate_push n [] x = ap (λ m. (m, x) ∷ []) (sym (add-zero n))

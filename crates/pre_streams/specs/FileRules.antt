@@ -1,8 +1,10 @@
 -- The rules of a stream file over its raw rows, for a network, and the first fault.
 use Rattle.std.specs.Prelude.{ℕ, ◌+◌, ◌-◌, ◌^◌, ◌==◌, Bool, true, false, not, ◌&&◌, ◌||◌, List, [], ◌∷◌, length, take, nat_le, nat_lt, Option, Some, None, is_some, option_map, option_and_then, position, slice_get, if◌then◌else◌}
-use Rattle.std.specs.List.{list_any, find, common_prefix_len}
+use Rattle.std.specs.List.{list_all, list_any, find, common_prefix_len}
 use Rattle.std.specs.Option.{option_map_or}
 use Rattle.std.specs.Str.{bytes_eq}
+use Rattle.pre_base.specs.declared.limits.TheConstants.{LEAST_FRAME, GREATEST_FRAME, OVERHEAD}
+use Rattle.pre_base.specs.declared.numbers.ArcId.{ArcId}
 use Rattle.pre_base.specs.declared.numbers.FileRow.{FileRow}
 use Rattle.pre_base.specs.declared.numbers.FileRow.TheVariants as row
 use Rattle.pre_text.specs.Words.{is_name}
@@ -16,9 +18,12 @@ use Rattle.pre_topo.specs.declared.nodes.NodeKind.TheVariants.{Station, Bridge}
 use Rattle.pre_topo.specs.declared.arcs.Arc.{Arc}
 use Rattle.pre_streams.specs.declared.faults.StreamFault.{StreamFault}
 use Rattle.pre_streams.specs.declared.faults.StreamFault.TheVariants.{Name, Route, Class, Range, Burst, Count}
+use Rattle.pre_streams.specs.declared.arc_rules.ArcRule.{ArcRule}
+use Rattle.pre_streams.specs.declared.arc_rules.ArcRule.TheVariants.{Express, Preemptable, Carries}
 use Rattle.pre_streams.specs.declared.raw.RawStreams.{RawStreams}
 use Rattle.pre_streams.specs.declared.raw.RawCurve.{RawCurve}
 use Rattle.pre_streams.specs.declared.raw.RawFlow.{RawFlow}
+use Rattle.pre_streams.specs.NamedRoutes.{node_place, arc_place, arcs_along, route_made}
 
 -- the row at a place, where this many streams stand first
 abbrev pub row_at : ℕ → ℕ → FileRow
@@ -35,26 +40,12 @@ name_breaks rows place r = not (is_name r.name) || list_any (is_named r.name) (t
 
 -- routes
 
-abbrev pub has_name : List ℕ → Node → Bool
-has_name name n = bytes_eq n.name name
-
--- the place of the node of this name
-abbrev pub node_place : Network → List ℕ → Option ℕ
-node_place net name = position (has_name name) net.nodes
-
 abbrev pub is_station : NodeKind → Bool
 is_station Station = true
 is_station Bridge = false
 
 abbrev pub is_station_at : Network → ℕ → Bool
 is_station_at net node = option_map_or (λ n. is_station n.kind) (slice_get net.nodes node) false
-
-abbrev pub leads : ℕ → ℕ → Arc → Bool
-leads from to a = (a.from.0 == from) && (a.to.0 == to)
-
--- the place of the arc from one node to another
-abbrev pub arc_place : Network → ℕ → ℕ → Option ℕ
-arc_place net from to = position (leads from to) net.arcs
 
 -- the first and the last entry of a route
 abbrev pub is_end : List (List ℕ) → ℕ → Bool
@@ -97,9 +88,26 @@ abbrev pub bad_route : Network → List RawFlow → Option (ℕ × ℕ)
 bad_route net rows =
     option_and_then (λ place. option_map (λ hop. (place, hop)) (option_and_then (hop_fault net rows) (slice_get rows place))) (position (λ r. is_some (hop_fault net rows r)) rows)
 
--- a stream below the express priorities, or a flow among them; a row is a stream where it has a curve
-abbrev pub class_breaks : ℕ → List RawCurve → ℕ → RawFlow → Bool
-class_breaks express_from curves place r = if nat_lt place (length curves) then is_below express_from r.prio else not (is_below express_from r.prio)
+-- what each arc of its route asks of a row: that its priority is express there, or preemptable, or that the arc carries
+-- its greatest frame as a preemptable one
+abbrev pub meets : ArcRule → Arc → Bool
+meets (Express prio) a = not (is_below a.express_from prio)
+meets (Preemptable prio) a = is_below a.express_from prio
+meets (Carries max) a = is_within 0 a.largest max
+
+abbrev pub meets_at : Network → ArcRule → ArcId → Bool
+meets_at net rule id = option_map_or (meets rule) (slice_get net.arcs id.0) false
+
+abbrev pub holds_along : Network → ArcRule → List (List ℕ) → Bool
+holds_along net rule route = list_all (meets_at net rule) (arcs_along net (route_made net route))
+
+-- a row is a stream where it has a curve
+abbrev pub class_rule : List RawCurve → ℕ → RawFlow → ArcRule
+class_rule curves place r = if nat_lt place (length curves) then Express r.prio else Preemptable r.prio
+
+-- a stream that isn't express on each arc of its route, or a flow that isn't preemptable on each
+abbrev pub class_breaks : Network → List RawCurve → ℕ → RawFlow → Bool
+class_breaks net curves place r = not (holds_along net (class_rule curves place r) r.route)
 
 -- ranges
 
@@ -110,14 +118,18 @@ abbrev pub curve_in_range : RawCurve → Bool
 curve_in_range c = is_within 84 (10 ^ 9) c.burst && is_within 1 (10 ^ 6) c.rate
 
 abbrev pub row_in_range : RawFlow → Bool
-row_in_range r = is_within 1 4094 r.vid && is_within 0 7 r.prio && length_in_range (length r.route) && is_within 64 1522 r.max
+row_in_range r = is_within 1 4094 r.vid && is_within 0 7 r.prio && length_in_range (length r.route) && is_within LEAST_FRAME GREATEST_FRAME r.max
 
-abbrev pub range_breaks : List RawCurve → ℕ → RawFlow → Bool
-range_breaks curves place r = not (row_in_range r && option_map_or curve_in_range (slice_get curves place) true)
+-- each arc of a flow's route carries its greatest frame
+abbrev pub is_carried : Network → List RawCurve → ℕ → RawFlow → Bool
+is_carried net curves place r = nat_lt place (length curves) || holds_along net (Carries r.max) r.route
 
--- a burst without room for the greatest frame, with its 20 octets of preamble and gap
+abbrev pub range_breaks : Network → List RawCurve → ℕ → RawFlow → Bool
+range_breaks net curves place r = not (row_in_range r && option_map_or curve_in_range (slice_get curves place) true && is_carried net curves place r)
+
+-- a burst without room for the greatest frame, with its preamble and gap
 abbrev pub burst_breaks : List RawCurve → ℕ → RawFlow → Bool
-burst_breaks curves place r = option_map_or (λ c. nat_lt (natural c.burst) (natural r.max + 20)) (slice_get curves place) false
+burst_breaks curves place r = option_map_or (λ c. nat_lt (natural c.burst) (natural r.max + OVERHEAD)) (slice_get curves place) false
 
 -- the first row that breaks a rule, in the words of the file
 abbrev pub fault_at : (FileRow → StreamFault) → ℕ → Option ℕ → Option StreamFault
@@ -130,10 +142,10 @@ unfoldable pub route_fault : Network → RawStreams → Option StreamFault
 route_fault net raw = option_map (λ at. Route (row_at (length raw.curves) at.0) at.1) (bad_route net raw.rows)
 
 unfoldable pub class_fault : Network → RawStreams → Option StreamFault
-class_fault net raw = fault_at Class (length raw.curves) (first_row (class_breaks net.express_from raw.curves) raw.rows)
+class_fault net raw = fault_at Class (length raw.curves) (first_row (class_breaks net raw.curves) raw.rows)
 
-unfoldable pub range_fault : RawStreams → Option StreamFault
-range_fault raw = fault_at Range (length raw.curves) (first_row (range_breaks raw.curves) raw.rows)
+unfoldable pub range_fault : Network → RawStreams → Option StreamFault
+range_fault net raw = fault_at Range (length raw.curves) (first_row (range_breaks net raw.curves) raw.rows)
 
 unfoldable pub burst_fault : RawStreams → Option StreamFault
 burst_fault raw = fault_at Burst (length raw.curves) (first_row (burst_breaks raw.curves) raw.rows)
@@ -145,4 +157,4 @@ counts_hold raw = nat_le (length raw.curves) 256 && nat_le (length raw.rows) (le
 -- the first fault, by rule and then by row
 abbrev pub raw_fault : Network → RawStreams → Option StreamFault
 raw_fault net raw =
-    first_of (name_fault raw ∷ route_fault net raw ∷ class_fault net raw ∷ range_fault raw ∷ burst_fault raw ∷ (if counts_hold raw then None else Some Count) ∷ [])
+    first_of (name_fault raw ∷ route_fault net raw ∷ class_fault net raw ∷ range_fault net raw ∷ burst_fault raw ∷ (if counts_hold raw then None else Some Count) ∷ [])

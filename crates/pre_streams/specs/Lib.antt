@@ -7,6 +7,7 @@ pub mod PairStreams
 pub mod Raw
 pub mod Seen
 pub mod Reads
+pub mod NamedRoutes
 pub mod FileRules
 pub mod Made
 pub mod StreamsOf

@@ -1,5 +1,5 @@
 -- The rows that raw rows without a fault make.
-use Rattle.std.specs.Prelude.{ℕ, List, [], ◌∷◌, map, Option, unwrap_or, option_map, slice_get}
+use Rattle.std.specs.Prelude.{ℕ, List, map, Option, option_map, slice_get}
 use Rattle.std.specs.List.{enumerate_from}
 use Rattle.pre_base.specs.declared.numbers.NodeId.{NodeId}
 use Rattle.pre_base.specs.declared.numbers.ArcId.{ArcId}
@@ -10,24 +10,7 @@ use Rattle.pre_streams.specs.declared.raw.RawStreams.{RawStreams}
 use Rattle.pre_streams.specs.declared.raw.RawCurve.{RawCurve}
 use Rattle.pre_streams.specs.declared.raw.RawFlow.{RawFlow}
 use Rattle.pre_streams.specs.declared.rows.Row.{Row}
-use Rattle.pre_streams.specs.FileRules.{node_place, arc_place}
-
--- the node of this name
-abbrev pub node_id : Network → List ℕ → NodeId
-node_id net name = record { 0 = unwrap_or (node_place net name) 0 }
-
--- the arc from one node to another
-abbrev pub arc_id : Network → NodeId → NodeId → ArcId
-arc_id net from to = record { 0 = unwrap_or (arc_place net from.0 to.0) 0 }
-
--- the arcs from each node to the next
-abbrev pub arcs_along : Network → List NodeId → List ArcId
-arcs_along net [] = []
-arcs_along net (from ∷ []) = []
-arcs_along net (from ∷ to ∷ rest) = arc_id net from to ∷ arcs_along net (to ∷ rest)
-
-abbrev pub route_made : Network → List (List ℕ) → List NodeId
-route_made net route = map (node_id net) route
+use Rattle.pre_streams.specs.NamedRoutes.{arcs_along, route_made}
 
 -- what a row says, its curve as burst and rate
 pub record RowParts : Type 0 where

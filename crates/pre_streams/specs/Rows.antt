@@ -1,6 +1,7 @@
 -- The rules of a stream or flow, and of its route through a network.
-use Rattle.std.specs.Prelude.{◌≡◌, ◌≢◌, ℕ, ◌+◌, ◌<◌, ◌≤◌, ◌^◌, List, length, slice_get, Some, IfSome, AllPairs, IsTrue, IsSome, IsNone}
+use Rattle.std.specs.Prelude.{◌≡◌, ◌≢◌, ℕ, ◌+◌, ◌<◌, ◌≤◌, ◌^◌, List, length, slice_get, Some, IfSome, All, AllPairs, IsTrue, IsSome, IsNone}
 use Rattle.pre_text.specs.Words.{is_name}
+use Rattle.pre_base.specs.declared.limits.TheConstants.{LEAST_FRAME, GREATEST_FRAME, OVERHEAD}
 use Rattle.pre_base.specs.declared.numbers.NodeId.{NodeId}
 use Rattle.pre_base.specs.declared.numbers.ArcId.{ArcId}
 use Rattle.pre_curve.specs.declared.curves.Curve.{Curve}
@@ -29,19 +30,25 @@ pub record IsRoute (net : Network) (route : List NodeId) (arcs : List ArcId) : T
   pub once : AllPairs (λ m n. m.0 ≢ n.0) route
   pub leads : (i : ℕ) (a : ArcId) (m n : NodeId) → slice_get arcs i ≡ Some a → slice_get route i ≡ Some m → slice_get route (i + 1) ≡ Some n → Leads net a m n
 
--- the curve of a stream whose frames have at most this many octets: its burst has room for one, with the 20 octets
--- of preamble and gap
+-- the curve of a stream whose frames have at most this many octets: its burst has room for one, with its
+-- preamble and gap
 pub record IsCurveOf (max : ℕ) (c : Curve) : Type 0 where
   pub burst : (84 ≤ c.burst) × (c.burst ≤ 10 ^ 9)
   pub rate : (1 ≤ c.rate) × (c.rate ≤ 10 ^ 6)
-  pub frame : max + 20 ≤ c.burst
+  pub frame : max + OVERHEAD ≤ c.burst
 
--- The rules of a row: a stream has a curve and an express priority, and a flow has neither.
+-- each arc of the way meets a rule
+abbrev pub OnEach : Network → List ArcId → (Arc → Type 0) → Type 0
+OnEach net arcs rule = All (λ id. (a : Arc) → slice_get net.arcs id.0 ≡ Some a → rule a) arcs
+
+-- The rules of a row: a stream has a curve, and a priority that is express on each arc of its route; a flow has no curve,
+-- a priority that is preemptable on each, and no frame above the greatest one there.
 pub record IsRow (net : Network) (r : Row) : Type 0 where
   pub name : IsTrue (is_name r.name)
   pub vid : (1 ≤ r.vid) × (r.vid ≤ 4094)
-  pub stream : IsSome r.curve → net.express_from ≤ r.prio
-  pub flow : IsNone r.curve → r.prio < net.express_from
+  pub stream : IsSome r.curve → OnEach net r.arcs (λ a. a.express_from ≤ r.prio)
+  pub flow : IsNone r.curve → OnEach net r.arcs (λ a. r.prio < a.express_from)
+  pub largest : IsNone r.curve → OnEach net r.arcs (λ a. r.max ≤ a.largest)
   pub route : IsRoute net r.route r.arcs
-  pub max : (64 ≤ r.max) × (r.max ≤ 1522)
+  pub max : (LEAST_FRAME ≤ r.max) × (r.max ≤ GREATEST_FRAME)
   pub curve : IfSome r.curve (IsCurveOf r.max)

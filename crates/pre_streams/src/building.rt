@@ -4,7 +4,8 @@ ghost use Rattle.std.specs.Option.{option_map_or};
 ghost use Rattle.pre_table.specs.Values.{natural};
 ghost use Rattle.pre_streams.specs.declared.raw.RawCurve.{RawCurve};
 ghost use Rattle.pre_streams.specs.FileRules.{row_in_range, curve_in_range};
-ghost use Rattle.pre_streams.specs.Made.{node_id, arc_id, arcs_along, route_made, curve_made, curve_parts, row_made, row_parts, rows_made};
+ghost use Rattle.pre_streams.specs.NamedRoutes.{node_id, arc_id, arcs_along, route_made};
+ghost use Rattle.pre_streams.specs.Made.{curve_made, curve_parts, row_made, row_parts, rows_made};
 
 use crate::Row;
 use crate::raw::{RawCurve, RawFlow, RawStreams};
@@ -14,7 +15,7 @@ use pre_curve::Curve;
 use pre_topo::Network;
 use std::alloc::{AllocError, Global};
 
-fn node_id(net: &Network, name: &Name) -> NodeId
+pub(crate) fn node_id(net: &Network, name: &Name) -> NodeId
     ensures { result ≡ node_id net.now name.now }
 {
     match node_place(net, name) {
@@ -23,7 +24,7 @@ fn node_id(net: &Network, name: &Name) -> NodeId
     }
 }
 
-fn arc_id(net: &Network, from: NodeId, to: NodeId) -> ArcId
+pub(crate) fn arc_id(net: &Network, from: NodeId, to: NodeId) -> ArcId
     ensures { result ≡ arc_id net.now from to }
 {
     match arc_place(net, usize::from(from.0), usize::from(to.0)) {

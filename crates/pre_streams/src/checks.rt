@@ -1,13 +1,15 @@
 ghost use Rattle.std.specs.Prelude.{◌≡◌, ◌<◌, length, position, is_some, slice_get, true, nat_lt, ◌+◌};
 ghost use Rattle.std.specs.List.{list_any};
 ghost use Rattle.std.specs.Option.{option_map_or};
+ghost use Rattle.pre_base.specs.declared.limits.TheConstants.{OVERHEAD};
 ghost use Rattle.pre_table.specs.FirstFaults.{first_row};
-ghost use Rattle.pre_streams.specs.FileRules.{is_named, name_breaks, row_at, hop_fault, bad_route, class_breaks, length_in_range, curve_in_range, row_in_range, range_breaks, burst_breaks, name_fault, route_fault, class_fault, range_fault, burst_fault, counts_hold, raw_fault};
+ghost use Rattle.pre_streams.specs.FileRules.{is_named, name_breaks, row_at, hop_fault, bad_route, class_rule, class_breaks, length_in_range, curve_in_range, row_in_range, is_carried, range_breaks, burst_breaks, name_fault, route_fault, class_fault, range_fault, burst_fault, counts_hold, raw_fault};
 
 use crate::StreamFault;
+use crate::arc_rules::{ArcRule, holds_along};
 use crate::raw::{RawCurve, RawFlow, RawStreams};
 use crate::routes::{hop_fault, is_same};
-use pre_base::{FileRow, Name};
+use pre_base::{FileRow, GREATEST_FRAME, LEAST_FRAME, Name, OVERHEAD};
 use pre_topo::Network;
 
 fn row_at(streams: usize, place: usize) -> FileRow
@@ -81,27 +83,35 @@ fn route_fault(net: &Network, raw: &RawStreams) -> Option<StreamFault>
     Some(StreamFault::Route { row, hop })
 }
 
-fn class_breaks(express_from: u8, curves: &[RawCurve], place: usize, row: &RawFlow) -> bool
-    ensures { result ≡ class_breaks express_from curves.now place row.now }
+fn class_rule(curves: &[RawCurve], place: usize, row: &RawFlow) -> ArcRule
+    ensures { result ≡ class_rule curves.now place row.now }
 {
     if place < curves.len() {
-        row.prio.is_below(u64::from(express_from))
+        ArcRule::Express(row.prio)
     } else {
-        !row.prio.is_below(u64::from(express_from))
+        ArcRule::Preemptable(row.prio)
     }
 }
 
-fn bad_class(express_from: u8, curves: &[RawCurve], rows: &[RawFlow]) -> Option<usize>
-    ensures { result ≡ first_row (class_breaks express_from curves.now) rows.now }
+fn class_breaks(net: &Network, curves: &[RawCurve], place: usize, row: &RawFlow) -> bool
+    ensures { result ≡ class_breaks net.now curves.now place row.now }
 {
-    rows.iter().enumerate().position(|(place, row)| class_breaks(express_from, curves, place, row))
+    !holds_along(net, class_rule(curves, place, row), row.route.as_slice())
+}
+
+fn bad_class(net: &Network, curves: &[RawCurve], rows: &[RawFlow]) -> Option<usize>
+    ensures { result ≡ first_row (class_breaks net.now curves.now) rows.now }
+{
+    rows.iter()
+        .enumerate()
+        .position(|(place, row)| class_breaks(net, curves, place, row))
 }
 
 #[tactic(auto, unfolding(crate::specs::FileRules::class_fault))]
 fn class_fault(net: &Network, raw: &RawStreams) -> Option<StreamFault>
     ensures { result ≡ class_fault net.now raw.now }
 {
-    let place = bad_class(net.express_from, raw.curves.as_slice(), raw.rows.as_slice())?;
+    let place = bad_class(net, raw.curves.as_slice(), raw.rows.as_slice())?;
     let row = row_at(raw.curves.len(), place);
     Some(StreamFault::Class { row })
 }
@@ -124,7 +134,9 @@ fn row_in_range(row: &RawFlow) -> bool
     row.vid.is_within(1, 4094)
         && row.prio.is_within(0, 7)
         && length_in_range(row.route.len())
-        && row.max.is_within(64, 1522)
+        && row
+            .max
+            .is_within(u64::from(LEAST_FRAME), u64::from(GREATEST_FRAME))
 }
 
 fn has_curve_in_range(curves: &[RawCurve], place: usize) -> bool
@@ -136,33 +148,42 @@ fn has_curve_in_range(curves: &[RawCurve], place: usize) -> bool
     }
 }
 
-fn range_breaks(curves: &[RawCurve], place: usize, row: &RawFlow) -> bool
-    ensures { result ≡ range_breaks curves.now place row.now }
+fn is_carried(net: &Network, curves: &[RawCurve], place: usize, row: &RawFlow) -> bool
+    ensures { result ≡ is_carried net.now curves.now place row.now }
 {
-    !(row_in_range(row) && has_curve_in_range(curves, place))
+    place < curves.len() || holds_along(net, ArcRule::Carries(row.max), row.route.as_slice())
 }
 
-fn bad_range(curves: &[RawCurve], rows: &[RawFlow]) -> Option<usize>
-    ensures { result ≡ first_row (range_breaks curves.now) rows.now }
+fn range_breaks(net: &Network, curves: &[RawCurve], place: usize, row: &RawFlow) -> bool
+    ensures { result ≡ range_breaks net.now curves.now place row.now }
+{
+    !(row_in_range(row)
+        && has_curve_in_range(curves, place)
+        && is_carried(net, curves, place, row))
+}
+
+fn bad_range(net: &Network, curves: &[RawCurve], rows: &[RawFlow]) -> Option<usize>
+    ensures { result ≡ first_row (range_breaks net.now curves.now) rows.now }
 {
     rows.iter()
         .enumerate()
-        .position(|(place, row)| range_breaks(curves, place, row))
+        .position(|(place, row)| range_breaks(net, curves, place, row))
 }
 
 #[tactic(auto, unfolding(crate::specs::FileRules::range_fault))]
-fn range_fault(raw: &RawStreams) -> Option<StreamFault>
-    ensures { result ≡ range_fault raw.now }
+fn range_fault(net: &Network, raw: &RawStreams) -> Option<StreamFault>
+    ensures { result ≡ range_fault net.now raw.now }
 {
-    let place = bad_range(raw.curves.as_slice(), raw.rows.as_slice())?;
+    let place = bad_range(net, raw.curves.as_slice(), raw.rows.as_slice())?;
     let row = row_at(raw.curves.len(), place);
     Some(StreamFault::Range { row })
 }
 
 fn has_no_room(burst: u64, max: u64) -> bool
-    ensures { result ≡ nat_lt burst (max + 20) }
+    ensures { result ≡ nat_lt burst (max + OVERHEAD) }
 {
-    burst < 20 || burst - 20 < max
+    let overhead = u64::from(OVERHEAD);
+    burst < overhead || burst - overhead < max
 }
 
 fn burst_breaks(curves: &[RawCurve], place: usize, row: &RawFlow) -> bool
@@ -212,7 +233,7 @@ pub(crate) fn raw_fault(net: &Network, raw: &RawStreams) -> Option<StreamFault>
     if let Some(fault) = class_fault(net, raw) {
         return Some(fault);
     }
-    if let Some(fault) = range_fault(raw) {
+    if let Some(fault) = range_fault(net, raw) {
         return Some(fault);
     }
     if let Some(fault) = burst_fault(raw) {

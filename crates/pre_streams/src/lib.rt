@@ -1,6 +1,7 @@
 //! Streams and flows: what is sent through a network, and by which arcs.
 #![tactic(auto)]
 
+mod arc_rules;
 mod building;
 mod checks;
 mod faults;

@@ -2,7 +2,8 @@ ghost use Rattle.std.specs.Prelude.{◌≡◌, ◌==◌, ◌+◌, ◌<◌, ◌^�
 ghost use Rattle.std.specs.List.{list_any, find, common_prefix_len};
 ghost use Rattle.std.specs.Str.{bytes_eq};
 ghost use Rattle.pre_table.specs.FirstFaults.{first_row};
-ghost use Rattle.pre_streams.specs.FileRules.{has_name, node_place, is_station, is_station_at, leads, arc_place, is_end, is_linked, is_reached, has_kind_for, entry_breaks, difference, has_vid, other_route, hop_fault};
+ghost use Rattle.pre_streams.specs.NamedRoutes.{has_name, node_place, leads, arc_place};
+ghost use Rattle.pre_streams.specs.FileRules.{is_station, is_station_at, is_end, is_linked, is_reached, has_kind_for, entry_breaks, difference, has_vid, other_route, hop_fault};
 
 use crate::raw::RawFlow;
 use pre_base::Name;

@@ -35,6 +35,9 @@ abbrev pub items_in : Items → List Data
 items_in no_items = []
 items_in (item d ds) = d ∷ items_in ds
 
+abbrev pub as_some_whole : Data → Option (Option Whole)
+as_some_whole d = option_map Some (as_whole d)
+
 abbrev pub as_items : Data → Option (List Data)
 as_items d = option_map items_in (as_array d)
 
@@ -78,6 +81,10 @@ read_or read default key ms = option_map_or read (get_member key ms) default
 -- a number of the table, which is this one where nothing stands at the key
 abbrev pub number_or : ℕ → List ℕ → Members → Option Whole
 number_or default key ms = read_or as_whole (Some (Natural default)) key ms
+
+-- a number of the table, or that nothing stands at the key
+abbrev pub number_or_none : List ℕ → Members → Option (Option Whole)
+number_or_none key ms = read_or as_some_whole (Some None) key ms
 
 -- what goes on with a value, where there is one
 abbrev pub given : {A B : Type 0} → Option A → (A → Option B) → Option B

@@ -3,7 +3,7 @@ ghost use Rattle.std.specs.List.{list_all};
 ghost use Rattle.std.specs.Option.{option_map_or};
 ghost use Rattle.toml.specs.Data.{get_member, no_members, as_str, as_table};
 ghost use Rattle.toml.specs.View.{view, array_view, table_view};
-ghost use Rattle.pre_table.specs.Values.{whole_of, as_whole, all_tables, as_items, as_tables, is_table, items_in, number_or, read_or};
+ghost use Rattle.pre_table.specs.Values.{whole_of, as_whole, all_tables, as_items, as_tables, is_table, items_in, number_or, number_or_none, read_or};
 
 use toml::value::Array;
 use toml::{Table, Value};
@@ -99,6 +99,19 @@ pub fn natural_or(table: &Table, key: &str, default: u64) -> Option<Whole>
     ensures { result ≡ number_or default key.now (table_view table.now) }
 {
     number_or(table, key, Some(Whole::Natural(default)))
+}
+
+/// The number at the key, or that there is nothing: None where there is something else.
+pub fn number_or_none(table: &Table, key: &str) -> Option<Option<Whole>>
+    ensures { result ≡ number_or_none key.now (table_view table.now) }
+{
+    match value_at(table, key) {
+        None => Some(None),
+        Some(value) => {
+            let number = as_whole(value)?;
+            Some(Some(number))
+        }
+    }
 }
 
 /// The text at the key: None where there is something else, or nothing.

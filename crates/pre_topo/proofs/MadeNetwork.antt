@@ -25,26 +25,26 @@ sums_fit nodes arcs none =
       leb-true (sum_by wires_of_arc arcs) 67108864 (unless_none (nat_le (sum_by wires_of_arc arcs) 67108864) Wires wires),
     )
 
-pub bounded : (raw : RawNetwork) → rows_fault raw ≡ None → All IsBounded (arcs_made raw.nodes raw.links)
+pub bounded : (raw : RawNetwork) → rows_fault raw ≡ None → All IsBounded (arcs_made raw.express_from raw.nodes raw.links)
 bounded raw none k d in_ =
     let hold = faultless raw none in
-    let is = arcs_are raw.nodes raw.links hold.links.range hold.links.ends k d in_ in
+    let is = arcs_are raw.express_from hold.express raw.nodes raw.links hold.links.range hold.links.ends k d in_ in
     record { least = is.cost.0; most = is.cost.1; delay = is.delay }
 
-pub network_is : (raw : RawNetwork) → rows_fault raw ≡ None → sums_fault (nodes_made raw.nodes) (arcs_made raw.nodes raw.links) ≡ None → IsNetwork (natural raw.express_from) (timing_made raw.timing) (nodes_made raw.nodes) (arcs_made raw.nodes raw.links)
+pub network_is : (raw : RawNetwork) → rows_fault raw ≡ None → sums_fault (nodes_made raw.nodes) (arcs_made raw.express_from raw.nodes raw.links) ≡ None → IsNetwork (natural raw.express_from) (timing_made raw.timing) (nodes_made raw.nodes) (arcs_made raw.express_from raw.nodes raw.links)
 network_is raw none fits =
     let hold = faultless raw none in
-    let sums = sums_fit (nodes_made raw.nodes) (arcs_made raw.nodes raw.links) fits in
+    let sums = sums_fit (nodes_made raw.nodes) (arcs_made raw.express_from raw.nodes raw.links) fits in
     let nodes_count : length (nodes_made raw.nodes) ≡ length raw.nodes = length-map raw.nodes node_made in
-    let links_count = arcs_count raw.nodes raw.links in
+    let links_count = arcs_count raw.express_from hold.express raw.nodes raw.links in
     record {
       express = within 1 7 raw.express_from hold.express;
       timed = timing_is raw.timing hold.timing;
       each_node = nodes_are raw.nodes hold.nodes;
-      each_arc = arcs_are raw.nodes raw.links hold.links.range hold.links.ends;
+      each_arc = arcs_are raw.express_from hold.express raw.nodes raw.links hold.links.range hold.links.ends;
       names = names_differ raw.nodes hold.nodes;
-      ends = arcs_apart raw.nodes raw.links hold.links.ends hold.links.apart;
-      links = arcs_paired raw.nodes raw.links;
+      ends = arcs_apart raw.express_from hold.express raw.nodes raw.links hold.links.ends hold.links.apart;
+      links = arcs_paired raw.express_from hold.express raw.nodes raw.links;
       node_count = (omega (arith, hold.node_count), omega (arith, hold.node_count));
       arc_count = (omega (arith, hold.link_count, links_count), omega (arith, hold.link_count, links_count), omega (arith, links_count));
       slots = sums.0;

@@ -1,6 +1,7 @@
 -- The rules of an arc, the arc of the other direction, and what an arc takes of memory.
 use Rattle.std.specs.Prelude.{◌≡◌, ◌≢◌, ℕ, ◌+◌, ◌-◌, ◌*◌, ◌/◌, ◌%◌, ◌==◌, ◌<◌, ◌≤◌, ◌^◌, List, length, sum, slice_get, All, if◌then◌else◌}
 use Rattle.std.specs.Option.{option_map_or}
+use Rattle.pre_base.specs.declared.limits.TheConstants.{LEAST_FRAME, GREATEST_FRAME, GREATEST_PACKET}
 use Rattle.pre_topo.specs.declared.nodes.Node.{Node}
 use Rattle.pre_topo.specs.declared.arcs.Arc.{Arc}
 
@@ -13,6 +14,8 @@ pub record IsArc (nodes : List Node) (a : Arc) : Type 0 where
   pub delay : a.delay ≤ 10 ^ 9
   pub add_frag : a.add_frag ≤ 3
   pub rings : All (λ r. (1 ≤ r) × (r ≤ 4096)) a.rings
+  pub express_from : (1 ≤ a.express_from) × (a.express_from ≤ 7)
+  pub largest : (LEAST_FRAME ≤ a.largest) × (a.largest ≤ GREATEST_FRAME)
 
 -- the other arc of its link, where arcs 2i and 2i + 1 are the two of link i
 abbrev pub reverse_of : ℕ → ℕ
@@ -37,4 +40,4 @@ slots_of_arc nodes a = sum a.rings + 3 + latency_at nodes a.to.0 / (84 * a.cost)
 
 -- the octets that may be on an arc's wire: those that leave within its delay, and a longest frame with its preamble
 abbrev pub wires_of_arc : Arc → ℕ
-wires_of_arc a = a.delay / a.cost + 1530
+wires_of_arc a = a.delay / a.cost + GREATEST_PACKET

@@ -1,9 +1,10 @@
 -- The rules of a network file over its raw rows, and the first fault.
-use Rattle.std.specs.Prelude.{ℕ, Bool, false, not, ◌&&◌, ◌||◌, ◌^◌, List, [], ◌∷◌, length, take, codes, nat_le, Option, Some, None, is_some, option_map, position, sum_by, if◌then◌else◌}
+use Rattle.std.specs.Prelude.{ℕ, Bool, true, false, not, ◌&&◌, ◌||◌, ◌^◌, List, [], ◌∷◌, length, take, codes, nat_le, Option, Some, None, is_some, option_map, position, sum_by, if◌then◌else◌}
 use Rattle.std.specs.List.{list_all, list_any}
 use Rattle.std.specs.Option.{option_map_or}
 use Rattle.std.specs.Str.{bytes_eq}
 use Rattle.pre_base.specs.declared.numbers.FileRow.TheVariants as row
+use Rattle.pre_base.specs.declared.limits.TheConstants.{LEAST_FRAME, GREATEST_FRAME}
 use Rattle.pre_text.specs.Words.{is_name}
 use Rattle.pre_table.specs.FirstFaults.{first_of, first_row}
 use Rattle.pre_table.specs.Values.{is_within}
@@ -78,6 +79,7 @@ policy_of word = if bytes_eq word (codes "pass") then Some policy.Pass else if b
 
 abbrev pub link_in_range : RawLink → Bool
 link_in_range l = is_within 1 1000 l.cost && is_within 0 (10 ^ 9) l.delay && is_some (mode_of l.mode) && is_some (policy_of l.policy) && is_within 0 3 l.add_frag && list_all (is_within 1 4096) l.rings
+    && option_map_or (is_within 1 7) l.express_from true && is_within LEAST_FRAME GREATEST_FRAME l.largest
 
 -- the whole file, the timing, then node by node and link by link
 unfoldable pub range_fault : RawNetwork → Option TopoFault

@@ -27,11 +27,11 @@ abbrev pub parts_of : Network → Parts
 parts_of net = record { express_from = net.express_from; timing = net.timing; nodes = net.nodes; arcs = net.arcs }
 
 abbrev pub parts_made : RawNetwork → Parts
-parts_made raw = record { express_from = natural raw.express_from; timing = timing_made raw.timing; nodes = nodes_made raw.nodes; arcs = arcs_made raw.nodes raw.links }
+parts_made raw = record { express_from = natural raw.express_from; timing = timing_made raw.timing; nodes = nodes_made raw.nodes; arcs = arcs_made raw.express_from raw.nodes raw.links }
 
 -- the first fault of raw rows
 abbrev pub raw_fault : RawNetwork → Option TopoFault
-raw_fault raw = first_of (rows_fault raw ∷ sums_fault (nodes_made raw.nodes) (arcs_made raw.nodes raw.links) ∷ [])
+raw_fault raw = first_of (rows_fault raw ∷ sums_fault (nodes_made raw.nodes) (arcs_made raw.express_from raw.nodes raw.links) ∷ [])
 
 abbrev pub unless_fault : Option TopoFault → Parts → Result Parts TopoFault
 unless_fault None parts = Ok parts

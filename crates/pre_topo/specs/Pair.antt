@@ -19,7 +19,7 @@ station name = record { name = name; kind = Station; latency = 0 }
 abbrev pub pair_nodes : List Node
 pair_nodes = station (codes "a") ∷ station (codes "b") ∷ []
 
--- the arc from a to b: one tick an octet, no delay, rings of 64 frames
+-- the arc from a to b: one tick an octet, no delay, rings of 64 frames, express from priority 4 on, preemptable frames up to 1522 octets
 abbrev pub pair_arc : Arc
 pair_arc = record {
   from = record { 0 = 0 };
@@ -30,6 +30,8 @@ pair_arc = record {
   policy = Quiet;
   add_frag = 0;
   rings = 64 ∷ 64 ∷ 64 ∷ 64 ∷ 64 ∷ 64 ∷ 64 ∷ 64 ∷ [];
+  express_from = 4;
+  largest = 1522;
 }
 
 abbrev pub pair_arcs : List Arc

@@ -7,7 +7,7 @@ use Rattle.pre_base.specs.declared.numbers.FileRow.TheVariants.{Top, Timing, Nod
 use Rattle.pre_table.specs.declared.values.Whole.{Whole}
 use Rattle.pre_table.specs.declared.values.Whole.TheVariants.{Natural}
 use Rattle.pre_table.specs.Documents.{has_only}
-use Rattle.pre_table.specs.Values.{given, kept, number_or, read_or, as_whole, as_tables, as_two_texts, as_numbers}
+use Rattle.pre_table.specs.Values.{given, kept, number_or, number_or_none, read_or, as_whole, as_tables, as_two_texts, as_numbers}
 use Rattle.pre_table.specs.Rows.{rows_of, in_row, rows_in, in_rows}
 use Rattle.pre_topo.specs.declared.raw.RawNetwork.{RawNetwork}
 use Rattle.pre_topo.specs.declared.raw.RawTiming.{RawTiming}
@@ -38,7 +38,7 @@ node_of ms =
     Some (record { name = name; kind = kind; latency = latency })))))
 
 abbrev pub link_keys : List (List ℕ)
-link_keys = codes "ends" ∷ codes "cost" ∷ codes "delay" ∷ codes "mode" ∷ codes "policy" ∷ codes "add_frag" ∷ codes "rings" ∷ []
+link_keys = codes "ends" ∷ codes "cost" ∷ codes "delay" ∷ codes "mode" ∷ codes "policy" ∷ codes "add_frag" ∷ codes "rings" ∷ codes "express_from" ∷ codes "largest" ∷ []
 
 -- the capacity of a ring, where the file says none
 abbrev pub default_ring : Whole
@@ -54,7 +54,9 @@ link_of ms =
     given (read_or as_str (Some (codes "quiet")) (codes "policy") ms) (λ policy.
     given (number_or 0 (codes "add_frag") ms) (λ add_frag.
     given (read_or (as_numbers 8) (Some (replicate 8 default_ring)) (codes "rings") ms) (λ rings.
-    Some (record { first = ends.0; second = ends.1; cost = cost; delay = delay; mode = mode; policy = policy; add_frag = add_frag; rings = rings })))))))))
+    given (number_or_none (codes "express_from") ms) (λ express_from.
+    given (number_or 1522 (codes "largest") ms) (λ largest.
+    Some (record { first = ends.0; second = ends.1; cost = cost; delay = delay; mode = mode; policy = policy; add_frag = add_frag; rings = rings; express_from = express_from; largest = largest })))))))))))
 
 -- the fields of the whole table; a table without `timing` has an empty one
 pub record TopRow : Type 0 where

@@ -1,5 +1,5 @@
 -- The text of a network's file: a part for the top and the timing, one for each node, and one for each link.
-use Rattle.std.specs.Prelude.{ℕ, List, [], ◌∷◌, codes, slice_index}
+use Rattle.std.specs.Prelude.{ℕ, List, [], ◌∷◌, ◌++◌, codes, slice_index}
 use Rattle.std.specs.Fmt.{decimal}
 use Rattle.std.specs.List.{concat, flat_map}
 use Rattle.pre_topo.specs.declared.arcs.Arc.{Arc}
@@ -45,9 +45,9 @@ node_text n =
 abbrev pub ring_text : Arc → ℕ → List ℕ
 ring_text a prio = decimal (slice_index a.rings prio)
 
--- a link, by its arc from the first end to the second
-unfoldable pub link_text : List Node → Arc → List ℕ
-link_text nodes a =
+-- a link's ends, times and way to preempt
+unfoldable pub link_head : List Node → Arc → List ℕ
+link_head nodes a =
     concat (
     codes "\n[[link]]\nends = [\"" ∷ name_of_node nodes a.from.0
     ∷ codes "\", \"" ∷ name_of_node nodes a.to.0
@@ -56,7 +56,14 @@ link_text nodes a =
     ∷ codes "\nmode = \"" ∷ mode_word a.mode
     ∷ codes "\"\npolicy = \"" ∷ policy_word a.policy
     ∷ codes "\"\nadd_frag = " ∷ decimal a.add_frag
-    ∷ codes "\nrings = [" ∷ ring_text a 0
+    ∷ []
+    )
+
+-- its rings, its least express priority and its greatest preemptable frame
+unfoldable pub link_rest : Arc → List ℕ
+link_rest a =
+    concat (
+    codes "\nrings = [" ∷ ring_text a 0
     ∷ codes ", " ∷ ring_text a 1
     ∷ codes ", " ∷ ring_text a 2
     ∷ codes ", " ∷ ring_text a 3
@@ -64,8 +71,14 @@ link_text nodes a =
     ∷ codes ", " ∷ ring_text a 5
     ∷ codes ", " ∷ ring_text a 6
     ∷ codes ", " ∷ ring_text a 7
-    ∷ codes "]\n" ∷ []
+    ∷ codes "]\nexpress_from = " ∷ decimal a.express_from
+    ∷ codes "\nlargest = " ∷ decimal a.largest
+    ∷ codes "\n" ∷ []
     )
+
+-- a link, by its arc from the first end to the second
+unfoldable pub link_text : List Node → Arc → List ℕ
+link_text nodes a = link_head nodes a ++ link_rest a
 
 abbrev pub nodes_text : List Node → List ℕ
 nodes_text nodes = flat_map node_text nodes

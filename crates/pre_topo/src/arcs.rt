@@ -35,6 +35,10 @@ pub struct Arc {
     pub add_frag: u8,
     /// The capacity of each priority's ring, in frames.
     pub rings: [u16; 8],
+    /// The least express priority of the arc (IEEE 802.1Q, frame preemption status), 1 to 7.
+    pub express_from: u8,
+    /// The greatest preemptable frame of the arc in octets, check included, 64 to 2000.
+    pub largest: u16,
 }
 
 /// The other arc of the link.

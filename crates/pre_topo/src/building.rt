@@ -1,4 +1,6 @@
-ghost use Rattle.std.specs.Prelude.{◌≡◌, ◌≤◌, ◌<◌, IfOk, IsTrue, length, map, position, unwrap_or, All};
+ghost use Rattle.std.specs.Prelude.{◌≡◌, ◌≤◌, ◌<◌, IfOk, IsTrue, length, map, position, unwrap_or, All, true};
+ghost use Rattle.std.specs.Option.{option_map_or};
+ghost use Rattle.pre_base.specs.declared.limits.TheConstants.{LEAST_FRAME, GREATEST_FRAME};
 ghost use Rattle.pre_table.specs.Values.{natural, is_within};
 ghost use Rattle.pre_topo.specs.FileRules.{is_named, link_in_range, timing_in_range};
 ghost use Rattle.pre_topo.specs.Arcs.{turned};
@@ -78,10 +80,26 @@ fn rings_made(rings: &[Whole; 8]) -> [u16; 8]
     made
 }
 
-fn arc_made(nodes: &[RawNode], link: &RawLink) -> Arc
+fn express_from_made(top: Whole, given: Option<Whole>) -> u8
+    requires top { IsTrue (is_within 1 7 top) }
+    requires given { IsTrue (option_map_or (is_within 1 7) given true) }
+    ensures { result ≡ natural (unwrap_or given top) }
+{
+    given.unwrap_or(top).natural() as u8
+}
+
+fn largest_made(largest: Whole) -> u16
+    requires { IsTrue (is_within LEAST_FRAME GREATEST_FRAME largest) }
+    ensures { result ≡ natural largest }
+{
+    largest.natural() as u16
+}
+
+fn arc_made(top: Whole, nodes: &[RawNode], link: &RawLink) -> Arc
     requires few { length nodes.now ≤ 128 }
+    requires top { IsTrue (is_within 1 7 top) }
     requires range { IsTrue (link_in_range link.now) }
-    ensures { result ≡ arc_made nodes.now link.now }
+    ensures { result ≡ arc_made top nodes.now link.now }
 {
     Arc {
         from: node_named(nodes, &link.first),
@@ -92,6 +110,8 @@ fn arc_made(nodes: &[RawNode], link: &RawLink) -> Arc
         policy: policy_of(&link.policy).unwrap_or(Policy::Quiet),
         add_frag: link.add_frag.natural() as u8,
         rings: rings_made(&link.rings),
+        express_from: express_from_made(top, link.express_from),
+        largest: largest_made(link.largest),
     }
 }
 
@@ -106,16 +126,18 @@ fn turned(arc: &Arc) -> Arc
 
 pub(crate) fn arcs_made(
     alloc: Global,
+    top: Whole,
     nodes: &[RawNode],
     links: &[RawLink],
 ) -> Result<Items<Arc>, AllocError>
     requires few { length nodes.now ≤ 128 }
+    requires top { IsTrue (is_within 1 7 top) }
     requires range { All (λ l. IsTrue (link_in_range l)) links.now }
-    ensures { IfOk result (λ arcs. arcs ≡ arcs_made nodes.now links.now) }
+    ensures { IfOk result (λ arcs. arcs ≡ arcs_made top nodes.now links.now) }
 {
     let mut arcs = Items::new(alloc);
     for link in links {
-        let arc = arc_made(nodes, link);
+        let arc = arc_made(top, nodes, link);
         arcs.push(arc)?;
         arcs.push(turned(&arc))?;
     }

@@ -33,6 +33,8 @@ fn link_copied(alloc: Global, fields: &LinkFields) -> Result<RawLink, AllocError
         policy: Name::copied(alloc, fields.policy)?,
         add_frag: fields.add_frag,
         rings: fields.rings,
+        express_from: fields.express_from,
+        largest: fields.largest,
     })
 }
 

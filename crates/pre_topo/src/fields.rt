@@ -5,7 +5,7 @@ ghost use Rattle.pre_topo.specs.Seen.{node_seen, link_seen, top_seen};
 
 use crate::raw::RawTiming;
 use pre_table::{
-    Whole, eight_numbers_or, has_only, natural_or, number_or, table_or_none, tables_at, text_at,
+    Whole, eight_numbers_or, has_only, natural_or, number_or, number_or_none, table_or_none, tables_at, text_at,
     text_or, two_texts_at,
 };
 use toml::{Table, Value};
@@ -29,6 +29,8 @@ pub struct LinkFields<'a> {
     pub policy: &'a str,
     pub add_frag: Whole,
     pub rings: [Whole; 8],
+    pub express_from: Option<Whole>,
+    pub largest: Whole,
 }
 
 /// What stands at the keys of the whole table.
@@ -80,7 +82,15 @@ pub(crate) fn link_fields(table: &Table) -> Option<LinkFields<'_>>
     if !has_only(
         table,
         &[
-            "ends", "cost", "delay", "mode", "policy", "add_frag", "rings",
+            "ends",
+            "cost",
+            "delay",
+            "mode",
+            "policy",
+            "add_frag",
+            "rings",
+            "express_from",
+            "largest",
         ],
     ) {
         return None;
@@ -92,6 +102,8 @@ pub(crate) fn link_fields(table: &Table) -> Option<LinkFields<'_>>
     let policy = text_or(table, "policy", "quiet")?;
     let add_frag = natural_or(table, "add_frag", 0)?;
     let rings = eight_numbers_or(table, "rings", Whole::Natural(16))?;
+    let express_from = number_or_none(table, "express_from")?;
+    let largest = natural_or(table, "largest", 1522)?;
     Some(LinkFields {
         first,
         second,
@@ -101,6 +113,8 @@ pub(crate) fn link_fields(table: &Table) -> Option<LinkFields<'_>>
         policy,
         add_frag,
         rings,
+        express_from,
+        largest,
     })
 }
 

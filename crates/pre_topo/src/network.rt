@@ -10,7 +10,7 @@ use pre_base::{ArcId, Items, NodeId};
 /// Nodes and the arcs between them. Link i has arc 2i from its first end to its second, and arc 2i + 1 back.
 #[derive(Debug, Drop)]
 pub struct Network {
-    /// The least express priority (IEEE 802.1Q, frame preemption status).
+    /// The least express priority of each link that says none of its own (IEEE 802.1Q, frame preemption status).
     pub express_from: u8,
     pub timing: Timing,
     pub nodes: Items<Node>,

@@ -48,6 +48,8 @@ fn pair_arc(from: NodeId, to: NodeId) -> Arc
         policy: Policy::Quiet,
         add_frag: 0,
         rings: [64; 8],
+        express_from: 4,
+        largest: 1522,
     }
 }
 
@@ -62,7 +64,7 @@ fn pair_arcs(alloc: Global) -> Result<Items<Arc>, AllocError>
 }
 
 /// The built-in network: stations `a` and `b`, and a link between them that preempts, of one tick an octet,
-/// no delay and rings of 64 frames.
+/// no delay, rings of 64 frames, express priorities from 4 on and preemptable frames up to 1522 octets.
 pub fn pair(alloc: Global) -> Result<Network, AllocError>
     ensures { IfOk result IsPair }
 {

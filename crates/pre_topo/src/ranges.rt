@@ -1,4 +1,5 @@
-ghost use Rattle.std.specs.Prelude.{◌≡◌, length, not, position};
+ghost use Rattle.std.specs.Prelude.{◌≡◌, length, not, position, true};
+ghost use Rattle.std.specs.Option.{option_map_or};
 ghost use Rattle.std.specs.List.{list_all};
 ghost use Rattle.pre_table.specs.Values.{is_within};
 ghost use Rattle.pre_topo.specs.FileRules.{timing_in_range, kind_of, node_in_range, mode_of, policy_of, link_in_range, range_fault, counts_hold, rows_fault, most_latency};
@@ -6,7 +7,7 @@ ghost use Rattle.pre_topo.specs.FileRules.{timing_in_range, kind_of, node_in_ran
 use crate::checks::{end_fault, name_fault};
 use crate::raw::{RawLink, RawNetwork, RawNode, RawTiming};
 use crate::{Mode, NodeKind, Policy, TopoFault};
-use pre_base::{FileRow, Name};
+use pre_base::{FileRow, GREATEST_FRAME, LEAST_FRAME, Name};
 use pre_table::Whole;
 
 pub(crate) fn kind_of(word: &Name) -> Option<NodeKind>
@@ -70,6 +71,15 @@ fn are_rings(rings: &[Whole]) -> bool
     rings.iter().all(|ring| ring.is_within(1, 4096))
 }
 
+fn is_express_from(given: Option<Whole>) -> bool
+    ensures { result ≡ option_map_or (is_within 1 7) given true }
+{
+    match given {
+        None => true,
+        Some(number) => number.is_within(1, 7),
+    }
+}
+
 fn link_in_range(link: &RawLink) -> bool
     ensures { result ≡ link_in_range link.now }
 {
@@ -79,6 +89,10 @@ fn link_in_range(link: &RawLink) -> bool
         && policy_of(&link.policy).is_some()
         && link.add_frag.is_within(0, 3)
         && are_rings(&link.rings)
+        && is_express_from(link.express_from)
+        && link
+            .largest
+            .is_within(u64::from(LEAST_FRAME), u64::from(GREATEST_FRAME))
 }
 
 fn bad_link(links: &[RawLink]) -> Option<usize>

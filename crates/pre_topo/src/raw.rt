@@ -38,4 +38,7 @@ pub struct RawLink {
     pub policy: Name,
     pub add_frag: Whole,
     pub rings: [Whole; 8],
+    /// None where the file has none; then the whole file's counts.
+    pub express_from: Option<Whole>,
+    pub largest: Whole,
 }

@@ -47,7 +47,7 @@ fn network_made(alloc: Global, raw: &RawNetwork) -> Result<Network, TopoFault>
     }
     let (raw_nodes, raw_links) = (raw.nodes.as_slice(), raw.links.as_slice());
     let nodes = nodes_made(alloc, raw_nodes)?;
-    let arcs = arcs_made(alloc, raw_nodes, raw_links)?;
+    let arcs = arcs_made(alloc, raw.express_from, raw_nodes, raw_links)?;
     if let Some(fault) = sums_fault(nodes.as_slice(), arcs.as_slice()) {
         return Err(fault);
     }

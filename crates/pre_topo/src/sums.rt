@@ -4,7 +4,7 @@ ghost use Rattle.pre_topo.specs.FileRules.{sums_fault};
 ghost use Rattle.pre_topo.specs.Bounds.{IsBounded};
 
 use crate::{Arc, Node, TopoFault};
-use pre_base::NodeId;
+use pre_base::{GREATEST_PACKET, NodeId};
 
 fn rings_sum(rings: &[u16; 8]) -> u64
     ensures value { result ≡ sum rings.now }
@@ -39,7 +39,7 @@ fn wires_of_arc(arc: &Arc) -> u64
     ensures value { result ≡ wires_of_arc arc.now }
     ensures small { result ≤ 2 ^ 60 }
 {
-    arc.delay / arc.cost + 1530
+    arc.delay / arc.cost + GREATEST_PACKET
 }
 
 /// The frames that may be kept for the arcs.

@@ -4,7 +4,7 @@ ghost use Rattle.pre_base.specs.Faults.{HasCause};
 ghost use Rattle.pre_base.specs.Told.{WhereTold};
 ghost use Rattle.pre_base.specs.Sinks.{TakesAll};
 ghost use Rattle.pre_text.specs.Spelled.{spelled};
-ghost use Rattle.pre_topo.specs.Text.{kind_word, mode_word, policy_word, head_text, node_text, nodes_text, link_text, links_text, ring_text};
+ghost use Rattle.pre_topo.specs.Text.{kind_word, mode_word, policy_word, head_text, node_text, nodes_text, link_head, link_rest, link_text, links_text, ring_text};
 ghost use Rattle.pre_topo.specs.NetworkText.{network_text};
 
 use crate::names::name_of;
@@ -108,11 +108,10 @@ fn ring(arc: &Arc, prio: usize) -> Word<'static, 'static>
     Word::Number(u64::from(arc.rings[prio]))
 }
 
-fn put_link<S: Sink>(sink: &mut S, nodes: &[Node], arc: &Arc) -> Result<(), Failed>
-    ensures octets { WhereTold (S.tells sink.old) (S.tells sink.new) (TakesAll result (link_text nodes.now arc.now)) }
+fn put_link_head<S: Sink>(sink: &mut S, nodes: &[Node], arc: &Arc) -> Result<(), Failed>
+    ensures octets { WhereTold (S.tells sink.old) (S.tells sink.new) (TakesAll result (link_head nodes.now arc.now)) }
     ensures cause { HasCause (S.faults sink.old) (S.faults sink.new) result }
 {
-    let comma = Word::Octets(b", ");
     put_words(
         sink,
         &[
@@ -130,6 +129,18 @@ fn put_link<S: Sink>(sink: &mut S, nodes: &[Node], arc: &Arc) -> Result<(), Fail
             Word::Octets(policy_word(arc.policy)),
             Word::Octets(b"\"\nadd_frag = "),
             Word::Number(u64::from(arc.add_frag)),
+        ],
+    )
+}
+
+fn put_link_rest<S: Sink>(sink: &mut S, arc: &Arc) -> Result<(), Failed>
+    ensures octets { WhereTold (S.tells sink.old) (S.tells sink.new) (TakesAll result (link_rest arc.now)) }
+    ensures cause { HasCause (S.faults sink.old) (S.faults sink.new) result }
+{
+    let comma = Word::Octets(b", ");
+    put_words(
+        sink,
+        &[
             Word::Octets(b"\nrings = ["),
             ring(arc, 0),
             comma,
@@ -146,9 +157,21 @@ fn put_link<S: Sink>(sink: &mut S, nodes: &[Node], arc: &Arc) -> Result<(), Fail
             ring(arc, 6),
             comma,
             ring(arc, 7),
-            Word::Octets(b"]\n"),
+            Word::Octets(b"]\nexpress_from = "),
+            Word::Number(u64::from(arc.express_from)),
+            Word::Octets(b"\nlargest = "),
+            Word::Number(u64::from(arc.largest)),
+            Word::Octets(b"\n"),
         ],
     )
+}
+
+fn put_link<S: Sink>(sink: &mut S, nodes: &[Node], arc: &Arc) -> Result<(), Failed>
+    ensures octets { WhereTold (S.tells sink.old) (S.tells sink.new) (TakesAll result (link_text nodes.now arc.now)) }
+    ensures cause { HasCause (S.faults sink.old) (S.faults sink.new) result }
+{
+    put_link_head(sink, nodes, arc)?;
+    put_link_rest(sink, arc)
 }
 
 fn put_links<S: Sink>(sink: &mut S, nodes: &[Node], arcs: &[Arc]) -> Result<(), Failed>

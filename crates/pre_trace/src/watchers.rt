@@ -1,10 +1,12 @@
-ghost use Rattle.std.specs.Prelude.{◌≡◌, ◌↔◌, ℕ, List, IsTrue};
+ghost use Rattle.std.specs.Prelude.{◌≡◌, ◌↔◌, ℕ, List, IsTrue, IsOk, OnErr};
 ghost use Rattle.std.proofs.Common.{refl, ◌∙◌};
 ghost use Rattle.pre_base.specs.Faults.{HasCause};
-ghost use Rattle.pre_base.specs.Told.{StillTells, StillTells-refl, StillTells-trans};
+ghost use Rattle.pre_base.specs.Told.{WhereTold, StillTells, StillTells-refl, StillTells-trans};
+ghost use Rattle.pre_base.specs.Sinks.{TakesAll};
 ghost use Rattle.pre_history.specs.History.{History, PlainEvent};
 ghost use Rattle.pre_history.specs.Plain.{plain, IsEvent};
 ghost use Rattle.pre_history.specs.Names.{HasArc, HasNode, IsOf};
+ghost use Rattle.pre_trace.specs.Text.{line};
 ghost use Rattle.pre_trace.specs.Watching.{GoesOn, HoldsText, HoldsTorn};
 
 use crate::{Event, put_event};
@@ -41,7 +43,7 @@ pub trait Watcher {
     ghost same_trans: { (u v w : Self) → same u v → same v w → same u w };
 }
 
-/// A watcher that writes the line of each event whose arc or node is the network's, and no other.
+/// A watcher that writes the line of each event whose arc or node is the network's, and answers Ok to any other.
 pub struct TraceWatcher<'a, S: Sink> {
     sink: &'a mut S,
     net: &'a Network,
@@ -112,7 +114,10 @@ impl<S: Sink> Watcher for TraceWatcher<'_, S> {
     #[tactic(auto, using(crate::proofs::Histories::line_goes))]
     fn event(&mut self, e: &Event) -> Result<(), Failed>
         requires { IsEvent (plain e.now) }
-        ensures unknown { (IsOf self.old.net.now (plain e.now) → ⊥) → self.new.sink.now ≡ self.old.sink.now }
+        ensures known { IsOf self.old.net.now (plain e.now) → WhereTold (S.tells self.old.sink.now) (S.tells self.new.sink.now) (TakesAll result (line self.old.net.now (plain e.now))) }
+        // An event of another network is left out.
+        ensures unknown { ¬ IsOf self.old.net.now (plain e.now) → IsOk result × (self.new.sink.now ≡ self.old.sink.now) }
+        ensures failed { OnErr result (IsOf self.old.net.now (plain e.now)) }
         ensures goes { GoesOn result (HoldsText self.old.net.now (S.tells self.old.sink.now)) (HoldsText self.new.net.now (S.tells self.new.sink.now)) (HoldsTorn self.new.net.now (S.tells self.new.sink.now)) (plain e.now) }
         ensures cause { HasCause (S.faults self.old.sink.now) (S.faults self.new.sink.now) result }
         ensures same { (self.new.sink.ghost_name ≡ self.old.sink.ghost_name) × (self.new.net.now ≡ self.old.net.now) × StillTells (S.tells self.old.sink.now) (S.tells self.new.sink.now) }

@@ -1,7 +1,7 @@
 use Rattle.std.proofs.Common.{◌≡◌, [], arith, sym, ◌∙◌, ap, ◌++◌, List}
 use Rattle.std.proofs.lemmas.List.{append-nil}
 use Rattle.pre_base.specs.declared.numbers.ArcId.{ArcId}
-use Rattle.pre_streams.specs.Made.{arcs_along}
+use Rattle.pre_streams.specs.NamedRoutes.{arcs_along}
 use Rattle.pre_streams.proofs.Rising.{short_route}
 use Rattle.pre_streams.proofs.building.arcs_along.Goals as goal
 

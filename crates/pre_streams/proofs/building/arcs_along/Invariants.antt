@@ -1,5 +1,5 @@
 use Rattle.std.proofs.Common.{◌≡◌, ◌++◌, length}
-use Rattle.pre_streams.specs.Made.{arcs_along}
+use Rattle.pre_streams.specs.NamedRoutes.{arcs_along}
 use Rattle.pre_streams.proofs.building.arcs_along.Given as goal
 
 abbrev pub invariant-loop-rest : goal.invariant-loop-rest

@@ -1,5 +1,5 @@
 use Rattle.std.proofs.Common.{◌≡◌, take}
-use Rattle.pre_streams.specs.Made.{route_made}
+use Rattle.pre_streams.specs.NamedRoutes.{route_made}
 use Rattle.pre_streams.proofs.building.route_made.Given as goal
 
 abbrev pub invariant-loop-name : goal.invariant-loop-name
