@@ -93,7 +93,8 @@ fn classes_of_each_arc(rt: HostRuntime) -> Result<(), Fail> {
     ] {
         assert_eq!(rt; read(alloc, AREAS, rows)?.err(), Some(fault), "{rows}");
     }
-    let long = "stream = [{name = \"x\", vid = 1, prio = 7, route = [\"a\", \"m\", \"b\"], max = 2000, burst = 2020, rate = 1}]";
+    let long =
+        "stream = [{name = \"x\", vid = 1, prio = 7, route = [\"a\", \"m\", \"b\"], max = 2000, burst = 2020, rate = 1}]";
     assert_eq!(rt; read(alloc, AREAS, long)??.rows.len(), 1);
     Ok(())
 }

@@ -5,8 +5,8 @@ ghost use Rattle.pre_topo.specs.Seen.{node_seen, link_seen, top_seen};
 
 use crate::raw::RawTiming;
 use pre_table::{
-    Whole, eight_numbers_or, has_only, natural_or, number_or, number_or_none, table_or_none, tables_at, text_at,
-    text_or, two_texts_at,
+    Whole, eight_numbers_or, has_only, natural_or, number_or, number_or_none, table_or_none,
+    tables_at, text_at, text_or, two_texts_at,
 };
 use toml::{Table, Value};
 
