@@ -1,4 +1,4 @@
-use Rattle.std.proofs.Common.{◌≡◌, ◌++◌, take, ◌∙◌, ap, arith}
+use Rattle.std.proofs.Common.{◌++◌, take, ◌∙◌, ap, arith}
 use Rattle.pre_base.specs.Waiting.{Waiting}
 use Rattle.pre_base.proofs.Waits.{held_more}
 use Rattle.pre_base.proofs.held.Held.hold.Goals as goal
