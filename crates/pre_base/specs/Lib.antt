@@ -11,3 +11,4 @@ pub mod Entries
 pub mod ShelfView
 pub mod Calls
 pub mod Last
+pub mod Waiting

@@ -1,5 +1,6 @@
 ghost use Rattle.std.specs.Prelude.{◌≡◌, ◌≤◌};
 
+use crate::held::Held;
 use crate::{Failed, Shelf, Sink};
 use std::fs;
 use std::io::Read;
@@ -98,9 +99,14 @@ impl<R: Files> Shelf for DirShelf<'_, R> {
 }
 
 /// The standard output. It tells nothing of content, and contracts see its count of faults.
+///
+/// It holds up to 65,536 octets and writes them where no further one fits, and at `flush`. A call that fails keeps what is
+/// left of them, and the next one goes on from there: so what was written is a front of what was taken, and is all of it
+/// after a `flush` that answers Ok. What it holds when it is dropped is lost.
 #[derive(Drop)]
 pub struct StdSink<'a, R: Print> {
     rt: &'a R,
+    held: Held,
     faults: u64,
 }
 
@@ -117,7 +123,11 @@ impl<'a, R: Print> StdSink<'a, R> {
     pub fn over(rt: &'a R) -> StdSink<'a, R>
         ensures { result ≡ 0 }
     {
-        StdSink { rt, faults: 0 }
+        StdSink {
+            rt,
+            held: Held::new(),
+            faults: 0,
+        }
     }
 }
 
@@ -129,16 +139,18 @@ impl<R: Print> Sink for StdSink<'_, R> {
     ghost faults = { λ s. s };
 
     fn write(&mut self, piece: &[u8]) -> Result<usize, Failed> {
-        match self.rt.write_some(piece) {
-            Ok(count) if count > 0 || piece.is_empty() => Ok(count),
-            _ => {
-                self.faults = self.faults.saturating_add(1);
-                Err(Failed)
-            }
+        if self.held.is_full() && self.held.write_out(self.rt).is_err() {
+            self.faults = self.faults.saturating_add(1);
+            return Err(Failed);
         }
+        Ok(self.held.hold(piece))
     }
 
     fn flush(&mut self) -> Result<(), Failed> {
+        if self.held.write_out(self.rt).is_err() {
+            self.faults = self.faults.saturating_add(1);
+            return Err(Failed);
+        }
         Ok(())
     }
 

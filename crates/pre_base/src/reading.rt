@@ -11,7 +11,7 @@ use std::alloc::{AllocError, Global};
 /// The greatest length of a file, in octets.
 pub const MAX_FILE: u64 = 16_777_216;
 
-const CHUNK: usize = 4096;
+const CHUNK: usize = 65536;
 
 /// Why a file wasn't read.
 #[derive(Clone, Copy, Debug, PartialEq, Eq)]

@@ -1,13 +1,13 @@
 -- The register takes in octets as division does.
-use Rattle.std.proofs.Common.{◌≡◌, ℕ, zero, suc, ◌+◌, ◌*◌, ◌/◌, ◌%◌, ◌^◌, ◌<◌, ◌==◌, Bool, true, false, not, cond, List, [], ◌∷◌, ◌++◌, map, length, replicate, refl, sym, ap, ap₂, ◌∙◌, arith, append_assoc, append-nil, lit<, get_or, take}
+use Rattle.std.proofs.Common.{◌≡◌, ℕ, zero, suc, ◌+◌, ◌*◌, ◌/◌, ◌%◌, ◌^◌, ◌<◌, ◌≤◌, ◌==◌, Bool, true, false, not, cond, List, [], ◌∷◌, ◌++◌, map, length, replicate, refl, sym, ap, ap₂, ◌∙◌, arith, append_assoc, append-nil, lit<, get_or, take, drop, subst, drop-cons}
 use Rattle.std.specs.Prelude.{bit_xor}
 use Rattle.std.specs.Int.{w32, to_le_bytes, bit_not}
-use Rattle.std.proofs.lemmas.List.{take_more}
+use Rattle.std.proofs.lemmas.List.{take_more, drop_all}
 use native.Mathlib.Nat.{pow-suc}
 use lib.Bits.{xor_zero_r, xor_comm, xor_assoc, xor_lt}
 use Rattle.pre_crc.specs.Division.{add_bits, remainder, coefficients}
 use Rattle.pre_crc.specs.Checks.{generator, low_bits, bits_of, octets_of, check_remainder, Fcs}
-use Rattle.pre_crc.specs.Register.{turn, turns, IsRegister, Stands}
+use Rattle.pre_crc.specs.Register.{turn, turns, taken_in, IsRegister, Stands}
 use Rattle.pre_crc.specs.declared.Running.{Running}
 use Rattle.pre_crc.proofs.Steps.{settle, step, steps, steps-append, complement_is_subtract, remainder-steps}
 use Rattle.pre_crc.proofs.Bits.{odd_xor, half_xor, low_bits-xor, length-low_bits, low_bits-above, map_not-low_bits, octets_of-word}
@@ -27,11 +27,11 @@ pub length-tail : length tail ≡ 32
 length-tail = length-low_bits 32 tail_number
 
 -- what `settle` does, at numbers
-pub settle_number : Bool → ℕ → ℕ
+unfoldable pub settle_number : Bool → ℕ → ℕ
 settle_number true x = bit_xor x tail_number
 settle_number false x = x
 
-settle_number-lt : (v : Bool) (x : ℕ) → x < 2 ^ 32 → settle_number v x < 2 ^ 32
+pub settle_number-lt : (v : Bool) (x : ℕ) → x < 2 ^ 32 → settle_number v x < 2 ^ 32
 unfolding settle_number
 settle_number-lt true x h = xor_lt 32 x tail_number h (lit< tt)
 settle_number-lt false x h = h
@@ -147,7 +147,44 @@ IsRegister-more r t before octets i hr hi ho e held =
     ap (λ xs. before ++ xs) (take_more octets i 0 hi) ∙ sym (append_assoc before (take i octets) (get_or octets i 0 ∷ [])) in
     rw (more, e) (IsRegister-push r (before ++ take i octets) (get_or octets i 0) hr ho held)
 
-pub Stands-push : (s t : Running) (before octets : List ℕ) (i : ℕ) → s.register < 2 ^ 32 → i < length octets → get_or octets i 0 < 256
-    → t.register ≡ turns 8 (bit_xor s.register (get_or octets i 0)) → Stands s (before ++ take i octets) → Stands t (before ++ take (i + 1) octets)
+-- ---- octets taken in
+
+turn-lt : (x : ℕ) → x < 2 ^ 32 → turn x < 2 ^ 32
+turn-lt x h = subst (λ y. y < 2 ^ 32) (sym (turn-settle (x % 2 == 1) (x / 2))) (settle_number-lt (x % 2 == 1) (x / 2) (omega arith))
+
+turns-lt : (k x : ℕ) → x < 2 ^ 32 → turns k x < 2 ^ 32
+unfolding turns
+turns-lt zero x h = h
+turns-lt (suc k) x h = turns-lt k (turn x) (turn-lt x h)
+
+IsRegister-taken : (r : ℕ) (before octets : List ℕ) → r < 2 ^ 32 → ((i : ℕ) → get_or octets i 0 < 256) → IsRegister r before → IsRegister (taken_in r octets) (before ++ octets)
+unfolding taken_in
+IsRegister-taken r before [] hr h held = subst (IsRegister r) (sym (append-nil before)) held
+IsRegister-taken r before (o ∷ octets) hr h held =
+    let wide : o < 2 ^ 32 = omega (arith, h 0) in
+    subst (IsRegister (taken_in (turns 8 (bit_xor r o)) octets)) (append_assoc before (o ∷ []) octets)
+    (IsRegister-taken (turns 8 (bit_xor r o)) (before ++ o ∷ []) octets (turns-lt 8 (bit_xor r o) (xor_lt 32 r o hr wide)) (λ i. h (suc i)) (IsRegister-push r before o hr (h 0) held))
+
+pub Stands-taken : (s t : Running) (before octets : List ℕ) → s.register < 2 ^ 32 → ((i : ℕ) → get_or octets i 0 < 256)
+    → t.register ≡ taken_in s.register octets → Stands s before → Stands t (before ++ octets)
 unfolding Stands
-Stands-push s t before octets i hs hi ho e held = IsRegister-more s.register t.register before octets i hs hi ho e held
+Stands-taken s t before octets hs h e held = subst (λ r. IsRegister r (before ++ octets)) (sym e) (IsRegister-taken s.register before octets hs h held)
+
+taken_in-cons : (r o : ℕ) (octets : List ℕ) → taken_in r (o ∷ octets) ≡ taken_in (turns 8 (bit_xor r o)) octets
+unfolding taken_in
+taken_in-cons r o octets = refl
+
+taken_in-nil : (r : ℕ) → taken_in r [] ≡ r
+unfolding taken_in
+taken_in-nil r = refl
+
+-- the next octet of a list
+pub taken_in-next : (r : ℕ) (octets : List ℕ) (i : ℕ) → i < length octets → taken_in (turns 8 (bit_xor r (get_or octets i 0))) (drop (i + 1) octets) ≡ taken_in r (drop i octets)
+taken_in-next r octets i h =
+    sym (ap (taken_in r) (drop-cons octets i 0 h)
+    ∙ taken_in-cons r (get_or octets i 0) (drop (suc i) octets)
+    ∙ ap (λ n. taken_in (turns 8 (bit_xor r (get_or octets i 0))) (drop n octets)) {x = suc i} {y = i + 1} (omega arith))
+
+-- none is left
+pub taken_in-none : (r : ℕ) (octets : List ℕ) (i : ℕ) → length octets ≤ i → taken_in r (drop i octets) ≡ r
+taken_in-none r octets i h = ap (taken_in r) (drop_all i octets h) ∙ taken_in-nil r

@@ -9,17 +9,17 @@ use lib.Pow.{split}
 use Rattle.pre_crc.specs.Division.{add_bits, subtract_at_head, remainder}
 use Rattle.pre_crc.specs.Checks.{low_bits}
 use Rattle.pre_crc.specs.Register.{turn, turns, IsRemainderOf}
-use Rattle.pre_crc.specs.declared.remainders.TheConstants.{TABLE}
+use Rattle.pre_crc.specs.declared.tables.TheConstants.{AFTER_ONE}
 use Rattle.pre_crc.proofs.Steps.{steps, add_bits-false, remainder-steps}
 use Rattle.pre_crc.proofs.Registers.{tail, generator-tail, length-tail, settle_number, turn-settle, turn-xor, steps-turns}
 
 -- the rule of the table, computed over the whole table
-table_computed : TABLE ≡ map (turns 8) (range_with_len 0 256)
+table_computed : AFTER_ONE ≡ map (turns 8) (range_with_len 0 256)
 unfolding turns
 table_computed = refl
 
-pub TABLE-at : (i : ℕ) → i < 256 → get_or TABLE i 0 ≡ turns 8 i
-TABLE-at i h = ap (λ xs. get_or xs i 0) table_computed ∙ get_or-map-range_with_len (turns 8) 0 256 i i 0 h (omega arith)
+pub AFTER_ONE-at : (i : ℕ) → i < 256 → get_or AFTER_ONE i 0 ≡ turns 8 i
+AFTER_ONE-at i h = ap (λ xs. get_or xs i 0) table_computed ∙ get_or-map-range_with_len (turns 8) 0 256 i i 0 h (omega arith)
 
 -- zeros change nothing
 subtract-zeros_first : (n : ℕ) (ys : List Bool) → subtract_at_head (replicate n false) ys ≡ ys
@@ -40,7 +40,7 @@ turn-shifted x c k =
     ∙ ap₂ (λ v y. bit_xor (settle_number v (x / 2)) y) (ap (λ r. add_bits odd (r == 1)) (shifted_even c k) ∙ add_bits-false odd) (shifted_half c k)
     ∙ ap (λ y. bit_xor y (c * 2 ^ k)) (sym (turn-settle odd (x / 2)))
 
-turns-shifted : (k x c : ℕ) → turns k (bit_xor x (c * 2 ^ k)) ≡ bit_xor (turns k x) c
+pub turns-shifted : (k x c : ℕ) → turns k (bit_xor x (c * 2 ^ k)) ≡ bit_xor (turns k x) c
 unfolding turns
 turns-shifted zero x c = ap (bit_xor x) (mul-one c)
 turns-shifted (suc k) x c = ap (turns k) (turn-shifted x c k) ∙ turns-shifted k (turn x) c
@@ -72,5 +72,5 @@ turns-remainder o h =
     ∙ steps-turns 8 0 o (lit< tt) h
     ∙ ap (λ y. low_bits 32 (turns 8 y)) (xor_comm 0 o ∙ xor_zero_r o))
 
-pub entry-remainder : (i : ℕ) → i < 256 → IsRemainderOf i (get_or TABLE i 0)
-entry-remainder i h = ap (low_bits 32) (TABLE-at i h) ∙ turns-remainder i h
+pub entry-remainder : (i : ℕ) → i < 256 → IsRemainderOf i (get_or AFTER_ONE i 0)
+entry-remainder i h = ap (low_bits 32) (AFTER_ONE-at i h) ∙ turns-remainder i h

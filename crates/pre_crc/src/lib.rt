@@ -8,8 +8,9 @@ ghost use Rattle.pre_crc.specs.Register.{Stands};
 
 mod bitwise;
 mod remainders;
+mod tables;
 
-use remainders::with_octet;
+use remainders::with_octets;
 
 /// The frame check sequence of `octets` as a frame ends with it: four octets, in the order in which
 /// they are sent (IEEE 802.3 clause 3.2.9).
@@ -41,9 +42,7 @@ impl Running {
     pub fn add(&mut self, octets: &[u8])
         ensures { (before : List ℕ) → Stands self.old before → Stands self.new (before ++ octets.now) }
     {
-        for octet in octets {
-            self.register = with_octet(self.register, *octet);
-        }
+        self.register = with_octets(self.register, octets);
     }
 
     /// The frame check sequence of all octets added (IEEE 802.3 clause 3.2.9).

@@ -1,4 +1,4 @@
-ghost use Rattle.std.specs.Prelude.{◌≡◌, ◌<◌, map};
+ghost use Rattle.std.specs.Prelude.{◌≡◌, ◌<◌, ◌≤◌, ◌*◌, length, take, map};
 ghost use Rattle.std.specs.Fmt.{decimal};
 ghost use Rattle.pre_base.specs.Faults.{HasCause};
 ghost use Rattle.pre_base.specs.Told.{WhereTold};
@@ -30,10 +30,37 @@ pub fn put_hex<S: Sink>(sink: &mut S, octets: &[u8]) -> Result<(), Failed>
     ensures octets { WhereTold (S.tells sink.old) (S.tells sink.new) (TakesAll result (hex octets.now)) }
     ensures cause { HasCause (S.faults sink.old) (S.faults sink.new) result }
 {
-    for octet in octets {
-        write_all(sink, &[digit_of(*octet / 16), digit_of(*octet % 16)])?;
+    let mut rest = octets;
+    while !rest.is_empty() {
+        let (few, further) = rest.split_at(rest.len().min(FEW));
+        put_few(sink, few)?;
+        rest = further;
     }
     Ok(())
+}
+
+/// How many octets are written as digits at once.
+const FEW: usize = 256;
+
+fn put_few<S: Sink>(sink: &mut S, octets: &[u8]) -> Result<(), Failed>
+    requires { length octets.now ≤ 256 }
+    ensures octets { WhereTold (S.tells sink.old) (S.tells sink.new) (TakesAll result (hex octets.now)) }
+    ensures cause { HasCause (S.faults sink.old) (S.faults sink.new) result }
+{
+    let mut digits = [0; 2 * FEW];
+    spell(octets, &mut digits);
+    write_all(sink, &digits[..2 * octets.len()])
+}
+
+/// Writes the digits of the octets to the front of `into`.
+fn spell(octets: &[u8], into: &mut [u8])
+    requires { 2 * length octets.now ≤ length into.old }
+    ensures { take (2 * length octets.now) into.new ≡ hex octets.now }
+{
+    for (at, octet) in octets.iter().enumerate() {
+        into[2 * at] = digit_of(*octet / 16);
+        into[2 * at + 1] = digit_of(*octet % 16);
+    }
 }
 
 fn put_check<S: Sink>(sink: &mut S, check: [u8; 4]) -> Result<(), Failed>

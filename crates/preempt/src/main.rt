@@ -1,7 +1,7 @@
 //! The command `preempt`: its words without its own name, files under the current folder, the standard output and error.
 #![tactic(auto)]
 
-use pre_base::{DirShelf, ErrSink, Failed, StdSink, write_all};
+use pre_base::{DirShelf, ErrSink, Failed, Sink, StdSink, write_all};
 use pre_cli::{Status, preempt, put_status};
 use std::alloc::{AllocError, Global};
 use std::env;
@@ -41,7 +41,10 @@ fn answer<R: Env + AllocGlobal + Files + Print>(rt: &R) -> Status {
         Ok(words) => {
             let mut shelf = DirShelf::over(rt);
             let mut sink = StdSink::over(rt);
-            preempt(rt.alloc(), words.as_slice(), &mut shelf, &mut sink)
+            let status = preempt(rt.alloc(), words.as_slice(), &mut shelf, &mut sink);
+            // The front of a text that was cut short: on Done all is flushed already.
+            let _ = sink.flush();
+            status
         }
         Err(status) => status,
     }
