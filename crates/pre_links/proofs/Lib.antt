@@ -1,0 +1,17 @@
+pub mod Numbers
+pub mod Early
+pub mod Latest
+pub mod Staying
+pub mod Elsewhere
+pub mod Listened
+pub mod Arriving
+pub mod Going
+pub mod Verifying
+pub mod Ending
+pub mod Begun
+pub mod Told
+pub mod Computed
+pub mod Asked
+pub mod Settling
+pub mod Ready
+pub mod Phases
