@@ -30,7 +30,7 @@ filter_all : {X : Type 0} (test : X → Bool) (xs : List X) → Every (λ x. tes
 filter_all test [] all = refl
 filter_all test (x ∷ xs) (here, more) = rw here (ap (λ ys. x ∷ ys) (filter_all test xs more))
 
-respond_is : (r : Outcome) → is_respond_result r ≡ true → r ≡ outcome.Respond
+pub respond_is : (r : Outcome) → is_respond_result r ≡ true → r ≡ outcome.Respond
 respond_is outcome.Respond is = refl
 respond_is outcome.Lldp is = absurd (cc is)
 respond_is outcome.Frame is = absurd (cc is)

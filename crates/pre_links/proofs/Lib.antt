@@ -15,3 +15,4 @@ pub mod Asked
 pub mod Settling
 pub mod Ready
 pub mod Phases
+pub mod Quiet

@@ -1,5 +1,5 @@
 -- What the sending end of an arc that negotiates stands for in a history: the state of its link at the ticks that are settled.
-use Rattle.std.specs.Prelude.{ℕ, ◌+◌, ◌≡◌, ◌≢◌, ◌<◌, ◌≤◌, ◌↔◌, ◌&&◌, not, Bool, true, false, List, [], ◌∷◌, length, Option, Some, None, Any, map, filter, option_map}
+use Rattle.std.specs.Prelude.{ℕ, ◌+◌, ◌%◌, ◌≡◌, ◌≢◌, ◌<◌, ◌≤◌, ◌↔◌, ◌&&◌, not, Bool, true, false, List, [], ◌∷◌, length, Option, Some, None, Any, map, filter, option_map}
 use Rattle.std.specs.Bool.{Decides}
 use Rattle.pre_lldp.specs.LinkState as link
 use Rattle.pre_verify.specs.Calls.{Call, settled, responded, good_of, verifies_of, responds_of}
@@ -10,7 +10,7 @@ use Rattle.pre_history.specs.declared.events.What.TheVariants as what
 use Rattle.pre_history.specs.Scenario.{Scenario}
 use Rattle.pre_history.specs.History.{History, PlainEvent}
 use Rattle.pre_history.specs.Selected.{is_verify}
-use Rattle.pre_history.specs.Queries.{Packet, Packets, Begins}
+use Rattle.pre_history.specs.Queries.{Packet, Packets, Begins, SettingOf}
 use Rattle.pre_history.specs.LinkState.{Good, Received, Began, LldpBegan, IsWanting, SettingBefore, ActiveBefore}
 use Rattle.pre_history.specs.Starts.{Choice}
 use Rattle.pre_history.specs.Placed.{moment_of}
@@ -81,3 +81,11 @@ pub record IsOther (c : Choice) : Type 0 where
   pub no_verify : c.kind ≢ kind.Verify
   pub no_respond : c.kind ≢ kind.Respond
   pub no_lldp : c.what ≢ what.Lldp
+
+-- After tick t and before tick m nothing changes for the link: it is as good as at t, no respond is received, the setting
+-- stays, and no interval is over.
+pub record IsQuiet (w : Scenario) (h : History) (a t m : ℕ) : Type 0 where
+  pub good : (i : ℕ) → t < i → i < m → Good w h a i ↔ Good w h a t
+  pub responds : (i : ℕ) → t < i → i < m → ¬ Received h a outcome.Respond i
+  pub settings : (i : ℕ) → t < i → i < m → SettingOf w a i ≡ SettingOf w a t
+  pub intervals : (i : ℕ) → t < i → i < m → i % w.net.timing.interval ≢ 0

@@ -10,7 +10,7 @@ pub use links::Link;
 pub use partners::Partner;
 pub use steps::{
     adverts_are_read, adverts_are_sent, arrivals_over, calm_arcs, events_elsewhere,
-    links_get_ready, other_begins, phases_elsewhere,
+    links_get_ready, other_begins, phases_elsewhere, quiet_ticks,
 };
 
 #[cfg(test)]

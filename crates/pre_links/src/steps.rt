@@ -15,7 +15,7 @@ ghost use Rattle.pre_history.specs.Placed.{AllWithin};
 ghost use Rattle.pre_links.specs.declared.links.Link.{Link};
 ghost use Rattle.pre_links.specs.declared.partners.Partner.{Partner};
 ghost use Rattle.pre_links.specs.Listening.{Hears, IsSilent};
-ghost use Rattle.pre_links.specs.Standing.{AreOver, IsOther, IsReady, IsUpTo, LinkStands, begin_of};
+ghost use Rattle.pre_links.specs.Standing.{AreOver, IsOther, IsQuiet, IsReady, IsUpTo, LinkStands, begin_of};
 
 /// Events that bring nothing of the partner leave what was heard. Once all arrivals of the settled ticks
 /// are over, events that neither begin nor end on an arc leave its link.
@@ -59,6 +59,16 @@ pub fn arrivals_over()
 pub fn links_get_ready()
     ensures later { (link : Link) (t u : ℕ) → t ≤ u → IsReady link t → IsReady link u }
     ensures next { (link : Link) (t u : ℕ) → t < u → IsUpTo link t → IsReady link u }
+{}
+
+/// Ticks at which nothing changes for a link need not be settled: it stands for them as it is, and nothing is told at the
+/// expiries of its arc.
+pub fn quiet_ticks()
+    ensures stands { (w : Scenario) (h : History) (a t m : ℕ) (link : Link) → (arc w a).mode ≡ mode.Negotiate
+        → LegalUpTo w (moment_of w (t + 1) Phase.sets) h → IsQuiet w h a t m → t < m → IsUpTo link t → LinkStands w h a (t + 1) link → LinkStands w h a m link }
+    ensures happens { (w : Scenario) (h : History) (a t m i : ℕ) (link : Link) → (arc w a).mode ≡ mode.Negotiate
+        → LegalUpTo w (moment_of w (t + 1) Phase.sets) h → IsQuiet w h a t m → t < i → i < m → LinkStands w h a (t + 1) link
+        → HappensIn w h i (Phase.expiries a) [] }
 {}
 
 /// Nothing is told at the expiries of an arc that doesn't negotiate.

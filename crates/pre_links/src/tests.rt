@@ -78,5 +78,6 @@ fn a_verify_is_answered_once(rt: HostRuntime) {
     links_get_ready();
     other_begins();
     phases_elsewhere();
+    quiet_ticks();
     assert!(rt; answers());
 }
