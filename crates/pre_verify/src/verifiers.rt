@@ -1,4 +1,4 @@
-ghost use Rattle.std.specs.Prelude.{◌≡◌, ◌≤◌, ◌^◌, ◌&&◌, ◌||◌, nat_le, nat_lt, ℕ, true, false, List, [], ◌∷◌, ◌++◌, is_some, option_map};
+ghost use Rattle.std.specs.Prelude.{◌≡◌, ◌≤◌, ◌^◌, ◌&&◌, ◌||◌, nat_le, nat_lt, ℕ, true, false, List, [], ◌∷◌, ◌++◌, is_some, option_map, Some, None};
 ghost use Rattle.std.specs.Option.{ForSome, option_map_or};
 
 use crate::states::VerifyState;
@@ -41,7 +41,9 @@ impl Verifier {
     /// A verifier that waits so many ticks for a respond.
     pub fn new(wait: u64) -> Verifier
         requires { wait ≤ 10 ^ 12 }
-        ensures { Stands result wait [] }
+        ensures latest { result.latest.0 ≡ 0 }
+        ensures settled { result.settled ≡ None }
+        ensures stands { Stands result wait [] }
     {
         Verifier {
             wait,
@@ -60,7 +62,9 @@ impl Verifier {
     pub fn settle(&mut self, now: Tick, good: bool)
         requires order { self.old.latest.0 ≤ now.0 }
         requires later { IsBefore (option_map (λ tick. tick.0) self.old.settled) now.0 }
-        ensures { (wait : ℕ) (calls : List Call) → Stands self.old wait calls
+        ensures latest { self.new.latest ≡ now }
+        ensures settled { self.new.settled ≡ Some now }
+        ensures stands { (wait : ℕ) (calls : List Call) → Stands self.old wait calls
             → Stands self.new wait (calls ++ settled now.0 good ∷ []) }
     {
         self.latest = now;
@@ -92,7 +96,9 @@ impl Verifier {
         requires order { self.old.latest.0 ≤ now.0 }
         requires wanted { is_wanting self.old now.0 ≡ true }
         requires none { is_under_way self.old ≡ false }
-        ensures { (wait : ℕ) (calls : List Call) → Stands self.old wait calls
+        ensures latest { self.new.latest ≡ now }
+        ensures settled { self.new.settled ≡ self.old.settled }
+        ensures stands { (wait : ℕ) (calls : List Call) → Stands self.old wait calls
             → Stands self.new wait (calls ++ begun now.0 ∷ []) }
     {
         self.latest = now;
@@ -107,7 +113,9 @@ impl Verifier {
         requires order { self.old.latest.0 ≤ now.0 }
         requires within { now.0 ≤ 10 ^ 18 }
         requires going { is_under_way self.old ≡ true }
-        ensures { (wait : ℕ) (calls : List Call) → Stands self.old wait calls
+        ensures latest { self.new.latest ≡ now }
+        ensures settled { self.new.settled ≡ self.old.settled }
+        ensures stands { (wait : ℕ) (calls : List Call) → Stands self.old wait calls
             → Stands self.new wait (calls ++ ended now.0 ∷ []) }
     {
         self.latest = now;
@@ -117,7 +125,9 @@ impl Verifier {
     /// Tells that a respond came.
     pub fn responded(&mut self, now: Tick)
         requires { self.old.latest.0 ≤ now.0 }
-        ensures { (wait : ℕ) (calls : List Call) → Stands self.old wait calls
+        ensures latest { self.new.latest ≡ now }
+        ensures settled { self.new.settled ≡ self.old.settled }
+        ensures stands { (wait : ℕ) (calls : List Call) → Stands self.old wait calls
             → Stands self.new wait (calls ++ responded now.0 ∷ []) }
     {
         self.verified = self.is_verified_by(now);

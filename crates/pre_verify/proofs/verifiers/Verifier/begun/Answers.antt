@@ -15,8 +15,8 @@ invariant_of-self c =
     let wants = wanting-parts c.args.self.now c.args.now.0 c.requires.wanted in
     record { wait_within = search rules; ended_within = λ e is. absurd cc; attempts_within = omega arith }
 
-pub returns : goal.returns
-returns c = λ wait calls s.
+pub returns-clause-stands : goal.returns-clause-stands
+returns-clause-stands c = λ wait calls s.
     let v = c.args.self.now in
     let t : ℕ = c.args.now.0 in
     let call : Call = begun t in

@@ -8,8 +8,8 @@ use Rattle.pre_verify.proofs.Standing.{IsBy-later}
 use Rattle.pre_verify.proofs.Steps.{run-kept, present-later, verified-responded, heard-responded}
 use Rattle.pre_verify.proofs.verifiers.Verifier.responded.Goals as goal
 
-pub returns : goal.returns
-returns c = λ wait calls s.
+pub returns-clause-stands : goal.returns-clause-stands
+returns-clause-stands c = λ wait calls s.
     let v = c.args.self.now in
     let t : ℕ = c.args.now.0 in
     let call : Call = responded t in

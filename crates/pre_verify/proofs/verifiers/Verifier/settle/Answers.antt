@@ -9,8 +9,8 @@ use Rattle.pre_verify.proofs.Standing.{IsBy-later, verified_later}
 use Rattle.pre_verify.proofs.Steps.{settles-from, run-new, run-continued_any, none_from, quiet-none, quiet-before, verified-new, present-new, present-settled_any}
 use Rattle.pre_verify.proofs.verifiers.Verifier.settle.Goals as goal
 
-pub returns-then-not-good : goal.returns-then-not-good
-returns-then-not-good c = λ wait calls s.
+pub returns-then-not-good-clause-stands : goal.returns-then-not-good-clause-stands
+returns-then-not-good-clause-stands c = λ wait calls s.
     let v = c.args.self.now in
     let t : ℕ = c.args.now.0 in
     let call : Call = settled t c.args.good in
@@ -31,8 +31,8 @@ returns-then-not-good c = λ wait calls s.
       present = IsBy-later v.last v.latest.0 t s.last_by c.requires.order;
     }
 
-pub returns-then-is_some : goal.returns-then-is_some
-returns-then-is_some c = λ wait calls s.
+pub returns-then-is_some-clause-stands : goal.returns-then-is_some-clause-stands
+returns-then-is_some-clause-stands c = λ wait calls s.
     let v = c.args.self.now in
     let t : ℕ = c.args.now.0 in
     let call : Call = settled t c.args.good in
@@ -56,8 +56,8 @@ returns-then-is_some c = λ wait calls s.
           (present-settled_any (option_map (λ tick. tick.0) v.settled) v.latest.0 t v.attempts v.last v.first (verifies_of calls) v.since some c.requires.order s.present);
     }
 
-pub returns : goal.returns
-returns c = λ wait calls s.
+pub returns-clause-stands : goal.returns-clause-stands
+returns-clause-stands c = λ wait calls s.
     let v = c.args.self.now in
     let t : ℕ = c.args.now.0 in
     let call : Call = settled t c.args.good in

@@ -10,8 +10,8 @@ use Rattle.pre_verify.proofs.Standing.{IsBy-later, verified_later}
 use Rattle.pre_verify.proofs.Steps.{run-kept, verified-ended, last-ended, present-ended}
 use Rattle.pre_verify.proofs.verifiers.Verifier.verify_ended.Goals as goal
 
-pub returns : goal.returns
-returns c = λ wait calls s.
+pub returns-clause-stands : goal.returns-clause-stands
+returns-clause-stands c = λ wait calls s.
     let v = c.args.self.now in
     let t : ℕ = c.args.now.0 in
     let call : Call = ended t in
