@@ -1,6 +1,6 @@
 -- The frame that is expected of an mPacket is the one whose last octets it has.
 use Rattle.std.proofs.Common.{ℕ, ◌≡◌, ◌≢◌, ◌==◌, nat_lt, ◌+◌, ◌<◌, Bool, true, false, List, length, refl, sym, ◌∙◌, ap, arith, Some, None}
-use Rattle.std.specs.Prelude.{slice_get, if◌then◌else◌}
+use Rattle.std.specs.Prelude.{◌↔◌, IsTrue, slice_get, if◌then◌else◌}
 use Rattle.std.proofs.lemmas.Bool.Decides.{nat_tests}
 use Rattle.pre_base.specs.declared.numbers.FrameNo.{FrameNo}
 use Rattle.pre_history.specs.declared.events.What.{What}
@@ -18,6 +18,17 @@ use Rattle.pre_incoming.specs.declared.wires.OnWire.{OnWire}
 use Rattle.pre_incoming.specs.Judging.{expected, expected_of}
 use Rattle.pre_incoming.specs.Wires.{IsOnWire}
 use Rattle.pre_incoming.proofs.NextOne.{at_begin, lldp_behind}
+
+-- a test that tells whether two numbers are equal
+told : (v : Bool) (m n : ℕ) → IsTrue v ↔ (m ≡ n) → v ≡ (m == n)
+told true m n is = let same : m ≡ n = is.0 refl in sym (is_eq m n same)
+  where
+    is_eq : (x y : ℕ) → x ≡ y → (x == y) ≡ true
+    is_eq x y same = grind (arith, nat_tests)
+told false m n is = sym (not_eq m n (λ same. cc (is.1 same)))
+  where
+    not_eq : (x y : ℕ) → x ≢ y → (x == y) ≡ false
+    not_eq x y other = grind (arith, nat_tests)
 
 module _ (w : Scenario) (routed : IsRouted w) (n : ℕ) (h : History) (legal : LegalUpTo w n h) (a : ℕ) (a_lt : a < length w.net.arcs) (e : Ended) (p : OnWire)
     (at_e : slice_get (Ends h a) (length (Arrivals h a)) ≡ Some e) (on : IsOnWire w h a p e) where
@@ -37,7 +48,7 @@ module _ (w : Scenario) (routed : IsRouted w) (n : ℕ) (h : History) (legal : L
   of_what what.Nothing is some = absurd (some refl)
 
   expects : expected w p ≡ (if on.begin.from + e.size == length (WholeOf w h on.begin) then expected_of w on.begin.what p.octets.items else None)
-  expects = ap (λ (v : Bool). if v then expected_of w p.what p.octets.items else None) on.is_last
+  expects = ap (λ (v : Bool). if v then expected_of w p.what p.octets.items else None) (told p.is_last (on.begin.from + e.size) (length (WholeOf w h on.begin)) on.is_last)
       ∙ ap (λ (x : What). if on.begin.from + e.size == length (WholeOf w h on.begin) then expected_of w x p.octets.items else None) on.carries
 
   -- what is expected is the frame whose last octets it has

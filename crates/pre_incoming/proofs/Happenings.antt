@@ -34,7 +34,7 @@ use Rattle.pre_incoming.specs.declared.landings.Landing.{Landing}
 use Rattle.pre_incoming.specs.declared.wires.OnWire.{OnWire}
 use Rattle.pre_incoming.specs.Arriving.{arrived, Comes, HasFront, IsNotDue}
 use Rattle.pre_incoming.specs.Changes.{loses}
-use Rattle.pre_incoming.specs.Landings.{GoesOn, IsGiven, LandsAs, delivery, events, result_of}
+use Rattle.pre_incoming.specs.Landings.{GoesOn, IsGiven, IsNext, LandsAs, delivery, events, result_of}
 use Rattle.pre_incoming.specs.Wires.{IsOnWire, Receives}
 use Rattle.pre_incoming.proofs.Goings.{at_arrivals}
 use Rattle.pre_incoming.proofs.NextOne.{end_ord, its_ord, air_is, with_it}
@@ -52,16 +52,16 @@ same_end w h a x y is wire receiver = record {
 }
 
 -- what was given and isn't an alias
-as_landed : (w : Scenario) (h : History) (t a : ℕ) (x : Landing) (into : List ℕ) (new : Incoming) (g : Landed) → g ≢ landed.Alias → GoesOn w h t a (events w h t a x) new
+as_landed : (w : Scenario) (h : History) (t a : ℕ) (x : Landing) (into : List ℕ) (new : Incoming) (g : Landed) → g ≢ landed.Alias → IsNext w h t a x → GoesOn w h t a (events w h t a x) new
     → IsGiven w h t a x.ord (take x.size into) g → LandsAs w h t a x into new g
-as_landed w h t a x into new landed.Lost other goes given = (goes, given)
-as_landed w h t a x into new (landed.Frame f) other goes given = (goes, given)
-as_landed w h t a x into new landed.Lldp other goes given = (goes, given)
-as_landed w h t a x into new landed.Part other goes given = (goes, given)
-as_landed w h t a x into new landed.Verify other goes given = (goes, given)
-as_landed w h t a x into new landed.Respond other goes given = (goes, given)
-as_landed w h t a x into new landed.Nothing other goes given = (goes, given)
-as_landed w h t a x into new landed.Alias other goes given = absurd (other refl)
+as_landed w h t a x into new landed.Lost other next goes given = (next, goes, given)
+as_landed w h t a x into new (landed.Frame f) other next goes given = (next, goes, given)
+as_landed w h t a x into new landed.Lldp other next goes given = (next, goes, given)
+as_landed w h t a x into new landed.Part other next goes given = (next, goes, given)
+as_landed w h t a x into new landed.Verify other next goes given = (next, goes, given)
+as_landed w h t a x into new landed.Respond other next goes given = (next, goes, given)
+as_landed w h t a x into new landed.Nothing other next goes given = (next, goes, given)
+as_landed w h t a x into new landed.Alias other next goes given = absurd (other refl)
 
 -- no mPacket ends with a landing
 no_ends : (w : Scenario) (h : History) (t a i : ℕ) (given : Landed) → Ends (arrival t a i (result_of given) ∷ delivery w h t a given) a ≡ []
@@ -160,7 +160,7 @@ module _ (w : Scenario) (h : History) (t a : ℕ) (a_lt : a < length w.net.arcs)
       where
         finish : IsVerdict w h t a p x.given → Stands new.receiver (take (suc k) (Air w h a)) → LandsAs w h t a x into new x.given
         finish verdict stands =
-            as_landed w h t a x into new x.given verdict.no_stop (goes_on x ord verdict stands)
+            as_landed w h t a x into new x.given verdict.no_stop (record { place = number_is x ord; over = within (Ends h a) k next.0 next.1 }) (goes_on x ord verdict stands)
             (subst (λ i. IsGiven w h t a i (take x.size into) x.given) (sym (number_is x ord)) (verdict.known (take x.size into) front))
 
         on_air : (v : Bool) → loses w.script a p.ord ≡ v → slice_get (Air w h a) k ≡ Some (if v then None else Some (arrived w a p))

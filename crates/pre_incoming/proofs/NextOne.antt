@@ -5,7 +5,7 @@ use Rattle.std.proofs.lemmas.Bool.Decides.{nat_tests}
 use Rattle.std.proofs.lemmas.List.{take-append-drop, length-take-le}
 use Rattle.pre_lldp.proofs.ReadBack.{sent-length}
 use Rattle.pre_crc.specs.Checks.{Mcrc}
-use Rattle.pre_base.specs.declared.limits.TheConstants.{GREATEST_FRAME, HEAD}
+use Rattle.pre_base.specs.declared.limits.TheConstants.{GREATEST_FRAME, HEAD, LEAST_FRAME}
 use Rattle.pre_mpacket.specs.declared.packets.Kind.{Kind}
 use Rattle.pre_mpacket.specs.declared.packets.Kind.TheVariants as kind
 use Rattle.pre_mpacket.specs.Spelling.{head_of}
@@ -44,7 +44,7 @@ damaged_is w b octets = refl
 behind : (octets whole : List ℕ) → octets ≡ head_of kind.Express ++ whole → length whole ≡ 64 → behind_head octets ≡ Some whole
 behind octets whole is long =
     let all : length (head_of kind.Express ++ whole) ≡ 72 = omega (arith, long) in
-    ap behind_head is ∙ ap (λ n. if nat_le HEAD n && nat_le n (HEAD + GREATEST_FRAME) then Some whole else None) all
+    ap behind_head is ∙ ap (λ n. if nat_le (HEAD + LEAST_FRAME) n && nat_le n (HEAD + GREATEST_FRAME) then Some whole else None) all
 
 module _ (w : Scenario) (n : ℕ) (h : History) (legal : LegalUpTo w n h) (a : ℕ) (a_lt : a < length w.net.arcs) (e : Ended) (p : OnWire)
     (at_e : slice_get (Ends h a) (length (Arrivals h a)) ≡ Some e) (on : IsOnWire w h a p e) where

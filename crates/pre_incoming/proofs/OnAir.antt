@@ -1,6 +1,6 @@
 -- What comes of the mPackets that ended stays with later events.
 use Rattle.std.proofs.Common.{ℕ, zero, suc, ◌≡◌, ◌==◌, ◌+◌, ◌-◌, ◌<◌, ◌≤◌, List, [], ◌∷◌, ◌++◌, length, take, drop, refl, sym, ◌∙◌, ap, arith, subst, Option, Some}
-use Rattle.std.specs.Prelude.{slice_get}
+use Rattle.std.specs.Prelude.{◌↔◌, IsTrue, slice_get}
 use Rattle.std.specs.List.{AllZip}
 use Rattle.std.proofs.lemmas.List.Elements.{filter_map-append}
 use Rattle.std.proofs.lemmas.List.{length-map}
@@ -85,7 +85,7 @@ module _ (w : Scenario) (m n : ℕ) (h g : History) (legal : LegalUpTo w m h) (l
         its_ord = on.its_ord;
         kind = on.kind;
         carries = on.carries;
-        is_last = on.is_last ∙ ap (λ xs. on.begin.from + e.size == length xs) (sym whole);
+        is_last = subst (λ xs. IsTrue p.is_last ↔ (on.begin.from + e.size ≡ length xs)) (sym whole) on.is_last;
         octets = on.octets ∙ ap (λ (xs : List ℕ). head_of on.begin.kind ++ take (e.size - 4) (drop on.begin.from xs) ++ e.check) (sym whole);
         due = on.due;
       }

@@ -130,7 +130,7 @@ module _ (w : Scenario) (routed : IsRouted w) (n : ℕ) (h : History) (legal : L
         result = inr (inl (Given.frame octets, gives, ap (λ (v : Bool). if v then outcome.Lldp else outcome.Frame) (sym user)));
         none = frame_none octets gives is;
         events = (f.0, FrameOf w f.0, named, subst (λ xs. Gives A k (Given.frame xs)) whole gives, refl);
-        known = λ front so. let both : Some front ≡ Some octets = sym so ∙ is in let same : front ≡ octets = cc both in (named, subst (λ xs. Gives A k (Given.frame xs)) (sym same) gives);
+        known = λ front so. let both : Some front ≡ Some octets = sym so ∙ is in let same : front ≡ octets = cc both in record { named = named; gives = subst (λ xs. Gives A k (Given.frame xs)) (sym same) gives };
         no_stop = λ so. cc so;
       }
   frame_of octets gives is what.Lldp carries =
@@ -140,7 +140,15 @@ module _ (w : Scenario) (routed : IsRouted w) (n : ℕ) (h : History) (legal : L
         result = inr (inl (Given.frame octets, gives, ap (λ (v : Bool). if v then outcome.Lldp else outcome.Frame) (sym lldp)));
         none = frame_none octets gives is;
         events = refl;
-        known = λ front so. let both : Some front ≡ Some octets = sym so ∙ is in let same : front ≡ octets = cc both in subst (λ xs. Gives A k (Given.frame xs)) (sym same) gives;
+        known = λ front so. let both : Some front ≡ Some octets = sym so ∙ is in let same : front ≡ octets = cc both in
+            record {
+              begin = on.begin;
+              begun = begun;
+              carries = carries;
+              as_sent = same ∙ (last_octets octets is).1;
+              is_lldp = ap is_lldp_frame same ∙ lldp;
+              gives = subst (λ xs. Gives A k (Given.frame xs)) (sym same) gives;
+            };
         no_stop = λ so. cc so;
       }
   frame_of octets gives is what.Nothing carries = absurd ((last_octets octets is).0 carries)

@@ -3,8 +3,7 @@ use Rattle.std.specs.Prelude.{◌≡◌, ◌≢◌, ◌⊎◌, ◌+◌, ℕ, nat
 use Rattle.pre_mpacket.specs.declared.packets.Kind.{Kind}
 use Rattle.pre_mpacket.specs.declared.packets.Kind.TheVariants as kind
 use Rattle.pre_mpacket.specs.Arrivals.{Given}
-use Rattle.pre_base.specs.declared.limits.TheConstants.{GREATEST_FRAME, HEAD}
-use Rattle.pre_frame.specs.Layout.{IsFrameSize}
+use Rattle.pre_base.specs.declared.limits.TheConstants.{GREATEST_FRAME, HEAD, LEAST_FRAME}
 use Rattle.pre_receive.specs.Takings.{Taking, gave, gave_nothing}
 use Rattle.pre_history.specs.declared.events.What.{What}
 use Rattle.pre_history.specs.declared.events.What.TheVariants as what
@@ -13,9 +12,9 @@ use Rattle.pre_incoming.specs.declared.wires.OnWire.{OnWire}
 use Rattle.pre_incoming.specs.declared.landings.Landed.{Landed}
 use Rattle.pre_incoming.specs.declared.landings.Landed.TheVariants as landed
 
--- the octets of an mPacket behind its head, as many as a frame may have
+-- the octets of an mPacket behind its head, where they have the size of a frame
 abbrev pub behind_head : List ℕ → Option (List ℕ)
-behind_head octets = if nat_le HEAD (length octets) && nat_le (length octets) (HEAD + GREATEST_FRAME) then Some (drop HEAD octets) else None
+behind_head octets = if nat_le (HEAD + LEAST_FRAME) (length octets) && nat_le (length octets) (HEAD + GREATEST_FRAME) then Some (drop HEAD octets) else None
 
 module _ (w : Scenario) where
   abbrev pub expected_of : What → List ℕ → Option (List ℕ)
@@ -41,8 +40,3 @@ Judged k x expects (gave Given.verify) r = ((k ≡ kind.Verify) × (r ≡ landed
 Judged k x expects (gave Given.respond) r = ((k ≡ kind.Respond) × (r ≡ landed.Respond)) ⊎ ((k ≢ kind.Respond) × (r ≡ landed.Alias))
 Judged k x expects (gave Given.part) r = r ≡ landed.Part
 Judged k x expects (gave_nothing c) r = r ≡ landed.Nothing
-
--- a user frame's size
-abbrev pub IsSizeOf : What → ℕ → Type 0
-IsSizeOf (what.Frame f) size = IsFrameSize size
-IsSizeOf other size = Unit {0}

@@ -1,5 +1,5 @@
 -- What the receiving end of an arc stands for in a history.
-use Rattle.std.specs.Prelude.{◌≡◌, ◌+◌, ◌==◌, ℕ, length, take, drop, Some, slice_get}
+use Rattle.std.specs.Prelude.{◌≡◌, ◌↔◌, ◌+◌, ℕ, IsTrue, length, take, drop, Some, slice_get}
 use Rattle.std.specs.List.{AllZip}
 use Rattle.pre_receive.specs.Receivers.{Stands}
 use Rattle.pre_history.specs.Scenario.{Scenario, arc}
@@ -17,7 +17,7 @@ module _ (w : Scenario) (h : History) (a : ℕ) where
     pub its_ord : p.ord ≡ e.ord
     pub kind : p.kind ≡ begin.kind
     pub carries : p.what ≡ begin.what
-    pub is_last : p.is_last ≡ (begin.from + e.size == length (WholeOf w h begin))
+    pub is_last : IsTrue p.is_last ↔ (begin.from + e.size ≡ length (WholeOf w h begin))
     pub octets : p.octets.items ≡ SentOctets w h begin e
     pub due : p.due.0 ≡ e.tick + (arc w a).delay
 

@@ -1,13 +1,12 @@
 ghost use Rattle.std.specs.Prelude.{◌≡◌, ◌<◌, ◌≤◌, ◌++◌, IfSome, length, drop, take, option_map};
-ghost use Rattle.pre_base.specs.declared.limits.TheConstants.{GREATEST_FRAME};
 ghost use Rattle.pre_frame.specs.Layout.{IsFrameSize};
 ghost use Rattle.pre_streams.specs.Rows.{IsRow};
 ghost use Rattle.pre_history.specs.Scenario.{row, send, FrameOf};
 ghost use Rattle.pre_incoming.specs.Inputs.{HasFrames, scenario_of};
-ghost use Rattle.pre_incoming.specs.Judging.{IsSizeOf, behind_head, expected};
+ghost use Rattle.pre_incoming.specs.Judging.{behind_head, expected};
 
 use crate::wires::OnWire;
-use pre_base::{FrameNo, GREATEST_FRAME, HEAD, Prio};
+use pre_base::{FrameNo, GREATEST_FRAME, HEAD, LEAST_FRAME, Prio};
 use pre_frame::build;
 use pre_history::What;
 use pre_script::Script;
@@ -66,7 +65,7 @@ fn prio_of(row: &Row) -> Prio
 pub(crate) fn put_expected(inputs: &Inputs, packet: &OnWire, into: &mut [u8; GREATEST_FRAME as usize]) -> Option<usize>
     requires { HasFrames (scenario_of inputs.now) }
     ensures octets { option_map (λ size. take size into.new) result ≡ expected (scenario_of inputs.now) packet.now }
-    ensures size { IfSome result (λ size. (size ≤ GREATEST_FRAME) × IsSizeOf packet.now.what size) }
+    ensures size { IfSome result IsFrameSize }
 {
     if !packet.is_last {
         return None;
@@ -86,13 +85,13 @@ pub(crate) fn put_expected(inputs: &Inputs, packet: &OnWire, into: &mut [u8; GRE
 /// Puts the octets of an mPacket behind its head at the front of `into`, where they fit: how many there are.
 fn put_front(octets: &[u8], into: &mut [u8; GREATEST_FRAME as usize]) -> Option<usize>
     ensures octets { option_map (λ size. take size into.new) result ≡ behind_head octets.now }
-    ensures size { IfSome result (λ size. size ≤ GREATEST_FRAME) }
+    ensures size { IfSome result IsFrameSize }
 {
     let head = HEAD as usize;
-    if octets.len() < head || octets.len() > head + into.len() {
+    let size = octets.len().saturating_sub(head);
+    if size < LEAST_FRAME as usize || size > into.len() {
         return None;
     }
-    let size = octets.len() - head;
     into[..size].copy_from_slice(&octets[head..]);
     Some(size)
 }
