@@ -36,11 +36,11 @@ pub at_arrivals : (w : Scenario) (h es : History) (t a : ℕ) → a < length w.n
 at_arrivals w h es t a a_lt legal happens none =
     goes_on w h es t place (Phase.arrivals a) place_lt phase legal happens
     (λ (u, b, i, b_lt, is, (e, at, due, alias)).
-        let same = sym (moment_is w h es t place (Phase.arrivals a) place_lt phase legal happens) ∙ arrivals_at w (moment_of w t (Phase.arrivals a)) u b b_lt is in
-        let tick_is : t ≡ u = ap (λ (m : Moment). m.tick) same in
-        let arc_is : Phase.arrivals a ≡ Phase.arrivals b = ap (λ (m : Moment). m.phase) same in
-        let one : a ≡ b = cc arc_is in
-        no_other i e (subst (λ x. slice_get (Ends h x) i ≡ Some e) (sym one) at) (subst (λ x. e.tick + (arc w x).delay ≡ t) (sym one) (due ∙ sym tick_is)) (subst (λ x. Alias w h x i) (sym one) alias))
+    let same = sym (moment_is w h es t place (Phase.arrivals a) place_lt phase legal happens) ∙ arrivals_at w (moment_of w t (Phase.arrivals a)) u b b_lt is in
+    let tick_is : t ≡ u = ap (λ (m : Moment). m.tick) same in
+    let arc_is : Phase.arrivals a ≡ Phase.arrivals b = ap (λ (m : Moment). m.phase) same in
+    let one : a ≡ b = cc arc_is in
+    no_other i e (subst (λ x. slice_get (Ends h x) i ≡ Some e) (sym one) at) (subst (λ x. e.tick + (arc w x).delay ≡ t) (sym one) (due ∙ sym tick_is)) (subst (λ x. Alias w h x i) (sym one) alias))
   where
     place : ℕ
     place = 1 + length w.net.arcs + a

@@ -39,6 +39,7 @@ use Rattle.pre_incoming.specs.Wires.{IsOnWire, Receives}
 use Rattle.pre_incoming.proofs.Goings.{at_arrivals}
 use Rattle.pre_incoming.proofs.NextOne.{end_ord, its_ord, air_is, with_it}
 use Rattle.pre_incoming.proofs.OnAir.{zip_weaker, first_of, none_of, by_lists, air_front, still_on_wire}
+use Rattle.pre_incoming.proofs.Telling.{no_ends}
 use Rattle.pre_incoming.proofs.Verdicts.{IsVerdict, lost_one, by_answer}
 
 -- a lost arrival leaves a receiver as it was
@@ -62,21 +63,6 @@ as_landed w h t a x into new landed.Verify other next goes given = (next, goes, 
 as_landed w h t a x into new landed.Respond other next goes given = (next, goes, given)
 as_landed w h t a x into new landed.Nothing other next goes given = (next, goes, given)
 as_landed w h t a x into new landed.Alias other next goes given = absurd (other refl)
-
--- no mPacket ends with a landing
-no_ends : (w : Scenario) (h : History) (t a i : ℕ) (given : Landed) → Ends (arrival t a i (result_of given) ∷ delivery w h t a given) a ≡ []
-no_ends w h t a i (landed.Frame f) = go (next_arc w a f.0)
-  where
-    go : (next : Option ℕ) → Ends (delivered t (arc w a).to.0 f.0 (FrameOf w f.0) next) a ≡ []
-    go None = refl
-    go (Some b) = refl
-no_ends w h t a i landed.Lost = refl
-no_ends w h t a i landed.Lldp = refl
-no_ends w h t a i landed.Part = refl
-no_ends w h t a i landed.Verify = refl
-no_ends w h t a i landed.Respond = refl
-no_ends w h t a i landed.Nothing = refl
-no_ends w h t a i landed.Alias = refl
 
 module _ (w : Scenario) (h : History) (t a : ℕ) (a_lt : a < length w.net.arcs) (legal : LegalBefore w h (moment_of w t (Phase.arrivals a))) where
   abbrev k : ℕ
@@ -126,7 +112,7 @@ module _ (w : Scenario) (h : History) (t a : ℕ) (a_lt : a < length w.net.arcs)
           happens = happens;
           legal = at_arrivals w h es t a a_lt legal happens (λ d at now alias. verdict.none alias);
           receives = by_lists w (h ++ es) a (suc k) (Ends h a) (take (suc k) (Air w h a)) new more
-              (filter_map-append (ended_on a) h es ∙ no_append (Ends h a) (Ends es a) (no_ends w h t a k x.given))
+              (filter_map-append (ended_on a) h es ∙ no_append (Ends h a) (Ends es a) (no_ends w h t a a k x.given))
               (air_front w (moment_of w t (Phase.arrivals a)) (suc (moment_of w t (Phase.arrivals a))) h es legal.0 later a a_lt (suc k) (within (Ends h a) k next.0 next.1)) stands
               (zip_weaker (IsOnWire w h a) (IsOnWire w (h ++ es) a) (still_on_wire w (moment_of w t (Phase.arrivals a)) (suc (moment_of w t (Phase.arrivals a))) h es legal.0 later a a_lt) new.wire.items (drop (suc k) (Ends h a)) next.3);
         })

@@ -7,5 +7,6 @@ pub mod Happenings
 pub mod NextOne
 pub mod OnAir
 pub mod Standing
+pub mod Telling
 pub mod Verdicts
 pub mod Xored

@@ -118,8 +118,8 @@ module _ (w : Scenario) (routed : IsRouted w) (n : ℕ) (h : History) (legal : L
   frame_none : (octets : List ℕ) → Gives A k (Given.frame octets) → expected w p ≡ Some octets → ¬ Alias w h a k
   frame_none octets gives is = none_of_given w h a k (Given.frame octets) gives (λ same. cc same) (λ same. cc same)
       (λ others same.
-          let one : octets ≡ others = cc same in
-          (last_is w h a k on.begin e begun at_e others).1 (subst (IsLastBy (WholeOf w h on.begin) on.begin e) one (last_octets octets is)))
+      let one : octets ≡ others = cc same in
+      (last_is w h a k on.begin e begun at_e others).1 (subst (IsLastBy (WholeOf w h on.begin) on.begin e) one (last_octets octets is)))
 
   frame_of : (octets : List ℕ) → Gives A k (Given.frame octets) → expected w p ≡ Some octets → (x : What) → on.begin.what ≡ x → IsVerdict w h t a p (carried x)
   frame_of octets gives is (what.Frame f) carries =
@@ -167,12 +167,22 @@ module _ (w : Scenario) (routed : IsRouted w) (n : ℕ) (h : History) (legal : L
   by_answer x at (gave Given.verify) taken given (inl (same, is)) =
       inl (subst (IsVerdict w h t a p) (sym is) (verify_of ((gives_as_last w n h legal a a_lt e p at_e on (Some x) at Given.verify).0 taken) same))
   by_answer x at (gave Given.verify) taken given (inr (other, is)) =
-      inr (is, inl ((gives_as_last w n h legal a a_lt e p at_e on (Some x) at Given.verify).0 taken,
-          λ of_kind. other (on.kind ∙ (kind_is w h a k on.begin e begun at_e kind.Verify).0 of_kind)))
+      inr (
+        is,
+        inl (
+          (gives_as_last w n h legal a a_lt e p at_e on (Some x) at Given.verify).0 taken,
+          λ of_kind. other (on.kind ∙ (kind_is w h a k on.begin e begun at_e kind.Verify).0 of_kind),
+        ),
+      )
   by_answer x at (gave Given.respond) taken given (inl (same, is)) =
       inl (subst (IsVerdict w h t a p) (sym is) (respond_of ((gives_as_last w n h legal a a_lt e p at_e on (Some x) at Given.respond).0 taken) same))
   by_answer x at (gave Given.respond) taken given (inr (other, is)) =
-      inr (is, inr (inl ((gives_as_last w n h legal a a_lt e p at_e on (Some x) at Given.respond).0 taken,
-          λ of_kind. other (on.kind ∙ (kind_is w h a k on.begin e begun at_e kind.Respond).0 of_kind))))
+      inr (
+        is,
+        inr (inl (
+          (gives_as_last w n h legal a a_lt e p at_e on (Some x) at Given.respond).0 taken,
+          λ of_kind. other (on.kind ∙ (kind_is w h a k on.begin e begun at_e kind.Respond).0 of_kind),
+        )),
+      )
   by_answer x at (gave_nothing c) taken given is =
       inl (subst (IsVerdict w h t a p) (sym is) (nothing_of x at (λ g gives. taken.0 g ((gives_as_last w n h legal a a_lt e p at_e on (Some x) at g).1 gives))))

@@ -33,9 +33,9 @@ result_of landed.Respond = outcome.Respond
 result_of landed.Nothing = outcome.Nothing
 result_of landed.Alias = outcome.Nothing
 
--- a frame stands at the front of the memory for one
+-- A frame stands at the front of the memory for one, and a user frame is one of the script's.
 abbrev pub HoldsFrame : Scenario → ℕ → List ℕ → Landed → Type 0
-HoldsFrame w size into (landed.Frame f) = IsFrameSize size × (take size into ≡ FrameOf w f.0)
+HoldsFrame w size into (landed.Frame f) = (f.0 < length w.script.sends) × IsFrameSize size × (take size into ≡ FrameOf w f.0)
 HoldsFrame w size into landed.Lldp = IsFrameSize size
 HoldsFrame w size into other = Unit {0}
 

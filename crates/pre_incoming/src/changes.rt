@@ -34,7 +34,11 @@ pub(crate) fn damage(script: &Script, arc: ArcId, ordinal: u64, smd: u64, octets
 {
     for line in script.damages.as_slice() {
         if line.arc == arc && line.ordinal == ordinal {
-            xor_from(octets, smd.saturating_add(line.offset), line.octets.as_slice());
+            xor_from(
+                octets,
+                smd.saturating_add(line.offset),
+                line.octets.as_slice(),
+            );
         }
     }
 }

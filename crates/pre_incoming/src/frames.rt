@@ -33,7 +33,15 @@ pub fn put_frame(inputs: &Inputs, frame: FrameNo, into: &mut [u8; GREATEST_FRAME
     let row = row_of(inputs, frame);
     let route = row.route.as_slice();
     let destination = route[route.len() - 1];
-    match build(into, destination, route[0], prio_of(row), row.vid, frame, size) {
+    match build(
+        into,
+        destination,
+        route[0],
+        prio_of(row),
+        row.vid,
+        frame,
+        size,
+    ) {
         Ok(size) => size,
         Err(_) => unreachable!(),
     }
@@ -62,7 +70,11 @@ fn prio_of(row: &Row) -> Prio
 
 /// Puts what an mPacket gives where it arrives as it was sent at the front of `into`, if it has its last octets: how many
 /// octets there are.
-pub(crate) fn put_expected(inputs: &Inputs, packet: &OnWire, into: &mut [u8; GREATEST_FRAME as usize]) -> Option<usize>
+pub(crate) fn put_expected(
+    inputs: &Inputs,
+    packet: &OnWire,
+    into: &mut [u8; GREATEST_FRAME as usize],
+) -> Option<usize>
     requires { HasFrames (scenario_of inputs.now) }
     ensures octets { option_map (λ size. take size into.new) result ≡ expected (scenario_of inputs.now) packet.now }
     ensures size { IfSome result IsFrameSize }

@@ -125,7 +125,13 @@ fn received(
             size: 0,
         };
     }
-    damage(inputs.script, arc, ord, smd_place(kind), octets.as_mut_slice());
+    damage(
+        inputs.script,
+        arc,
+        ord,
+        smd_place(kind),
+        octets.as_mut_slice(),
+    );
     let taken = receiver.take(octets.as_slice());
     Landing {
         ord,

@@ -12,5 +12,8 @@ mod wires;
 pub use frames::{Inputs, put_frame};
 pub use incomings::Incoming;
 pub use landings::{Landed, Landing};
-pub use laws::{no_alias_so_far, other_events};
+pub use laws::{landings_are_arrivals, no_alias_so_far, other_events};
 pub use wires::{OnWire, sent_octets};
+
+#[cfg(test)]
+mod tests;
