@@ -109,6 +109,13 @@ fn received(
     ensures front { HasFront (scenario_of inputs.now) arc.0 packet (take result.size into.new) result.given }
     ensures frame { HoldsFrame (scenario_of inputs.now) result.size into.new result.given }
 {
+    if is_lost(inputs.script, arc, packet.ord) {
+        return Landing {
+            ord: packet.ord,
+            given: Landed::Lost,
+            size: 0,
+        };
+    }
     let expected = put_expected(inputs, &packet, into);
     let OnWire {
         ord,
@@ -118,13 +125,6 @@ fn received(
         due: _,
         mut octets,
     } = packet;
-    if is_lost(inputs.script, arc, ord) {
-        return Landing {
-            ord,
-            given: Landed::Lost,
-            size: 0,
-        };
-    }
     damage(
         inputs.script,
         arc,

@@ -1,3 +1,5 @@
+ghost use Rattle.pre_incoming.specs.Inputs.{HasFrames, scenario_of};
+
 use super::*;
 use pre_base::{ArcId, FrameNo, GREATEST_FRAME, Items, Tick};
 use pre_history::What;
@@ -31,64 +33,89 @@ fn on_wire(alloc: Global) -> Result<OnWire, Fail> {
     })
 }
 
-/// What becomes of the frame at the end of the arc, under these lines of a script.
-fn landing(alloc: Global, loss: Option<Loss>, damage: Option<Damage>) -> Result<Landing, Fail> {
-    let net = pre_topo::pair(alloc)?;
-    let streams = pre_streams::pair(alloc)?;
-    let Ok(mut script) = read_script(alloc, b"send 0 x 64\nuntil 5000\n", &net, &streams) else {
-        return Err("a script".into());
-    };
-    if let Some(line) = loss {
-        script.losses.push(line)?;
-    }
-    if let Some(line) = damage {
-        script.damages.push(line)?;
-    }
-    let inputs = Inputs {
-        net: &net,
-        streams: &streams,
-        script: &script,
-    };
+/// Whether the frame stands at the front.
+fn is_frame(octets: &[u8; GREATEST_FRAME as usize]) -> bool {
+    octets[..64] == FRAME[..]
+}
+
+/// What becomes of the frame at the end of the arc.
+fn lands(alloc: Global, inputs: &Inputs) -> Result<Landing, Fail>
+    requires { HasFrames (scenario_of inputs.now) }
+{
     let mut incoming = Incoming::make(alloc)?;
     incoming.push(on_wire(alloc)?)?;
     let mut into = [0; GREATEST_FRAME as usize];
-    if incoming
-        .land(&inputs, Tick(71), ArcId(0), &mut into)
-        .is_some()
-    {
+    let early = incoming.land(inputs, Tick(71), ArcId(0), &mut into);
+    if early.is_some() {
         return Err("nothing is due".into());
     }
-    let Some(landing) = incoming.land(&inputs, Tick(72), ArcId(0), &mut into) else {
+    let Some(landing) = incoming.land(inputs, Tick(72), ArcId(0), &mut into) else {
         return Err("it is due".into());
     };
-    let is_whole = into[..FRAME.len()] == FRAME[..];
-    if landing.size == FRAME.len() && !is_whole {
+    if landing.size == FRAME.len() && !is_frame(&into) {
         return Err("the frame".into());
     }
     Ok(landing)
 }
 
+/// The same under these lines of a script.
+fn lands_under(
+    alloc: Global,
+    losses: Items<Loss>,
+    damages: Items<Damage>,
+) -> Result<Landing, Fail> {
+    let net = pre_topo::pair(alloc)?;
+    let streams = pre_streams::pair(alloc)?;
+    let Ok(mut script) = read_script(alloc, b"send 0 x 64\nuntil 5000\n", &net, &streams) else {
+        return Err("a script".into());
+    };
+    script.losses = losses;
+    script.damages = damages;
+    let inputs = Inputs {
+        net: &net,
+        streams: &streams,
+        script: &script,
+    };
+    lands(alloc, &inputs)
+}
+
 /// The line that damages the mPacket from this offset on.
-fn damage(alloc: Global, offset: u64, octets: &[u8]) -> Result<Option<Damage>, Fail> {
-    Ok(Some(Damage {
+fn damage(alloc: Global, offset: u64, octets: &[u8]) -> Result<Items<Damage>, Fail> {
+    let mut damages = Items::new(alloc);
+    damages.push(Damage {
         arc: ArcId(0),
         ordinal: 0,
         offset,
         octets: Items::from_vec(octets.to_vec(alloc)?),
-    }))
+    })?;
+    Ok(damages)
+}
+
+/// The line that loses it.
+fn loss(alloc: Global) -> Result<Items<Loss>, Fail> {
+    let mut losses = Items::new(alloc);
+    losses.push(Loss {
+        arc: ArcId(0),
+        ordinal: 0,
+    })?;
+    Ok(losses)
 }
 
 // Past its last octet nothing of an mPacket is changed.
 #[test]
 fn a_frame_as_it_was_sent(rt: HostRuntime) -> Result<(), Fail> {
+    let alloc = rt.alloc();
+    let landing = lands_under(
+        alloc,
+        Items::new(alloc),
+        damage(alloc, u64::MAX, &[0xFF; 32])?,
+    )?;
     let sent = Landing {
         ord: 0,
         given: Landed::Frame(FrameNo(0)),
         size: 64,
     };
-    assert_eq!(rt; landing(rt.alloc(), None, None)?, sent);
-    let line = damage(rt.alloc(), u64::MAX, &[0xFF; 32])?;
-    assert_eq!(rt; landing(rt.alloc(), None, line)?, sent);
+    assert_eq!(rt; landing, sent);
     other_events();
     no_alias_so_far();
     landings_are_arrivals();
@@ -98,18 +125,15 @@ fn a_frame_as_it_was_sent(rt: HostRuntime) -> Result<(), Fail> {
 // A damaged frame gives nothing, but where its check holds again; a lost one stays lost.
 #[test]
 fn a_frame_that_was_changed(rt: HostRuntime) -> Result<(), Fail> {
-    let one_bit = damage(rt.alloc(), 30, &[0x01])?;
-    assert_eq!(rt; landing(rt.alloc(), None, one_bit)?.given, Landed::Nothing);
-    let generator = damage(rt.alloc(), 30, &[0x41, 0x06, 0x71, 0xDB, 0x01])?;
-    assert_eq!(rt; landing(rt.alloc(), None, generator)?.given, Landed::Alias);
-    let line = Loss {
-        arc: ArcId(0),
-        ordinal: 0,
-    };
-    let one_bit = damage(rt.alloc(), 30, &[0x01])?;
-    assert_eq!(rt;
-        landing(rt.alloc(), Some(line), one_bit)?.given,
-        Landed::Lost
-    );
+    let alloc = rt.alloc();
+    let one_bit = damage(alloc, 30, &[0x01])?;
+    let landing = lands_under(alloc, Items::new(alloc), one_bit)?;
+    assert_eq!(rt; landing.given, Landed::Nothing);
+    let generator = damage(alloc, 30, &[0x41, 0x06, 0x71, 0xDB, 0x01])?;
+    let landing = lands_under(alloc, Items::new(alloc), generator)?;
+    assert_eq!(rt; landing.given, Landed::Alias);
+    let one_bit = damage(alloc, 30, &[0x01])?;
+    let landing = lands_under(alloc, loss(alloc)?, one_bit)?;
+    assert_eq!(rt; landing.given, Landed::Lost);
     Ok(())
 }
