@@ -1,5 +1,5 @@
 -- The counters of the first arrivals, as a receiver keeps them.
-use Rattle.std.proofs.Common.{ℕ, zero, suc, ◌≡◌, ◌+◌, ◌-◌, ◌^◌, ◌<◌, ◌≤◌, List, length, take, drop, ◌++◌, sym, ◌∙◌, ap, inl, inr, arith, subst, Option}
+use Rattle.std.proofs.Common.{ℕ, zero, suc, ◌≡◌, ◌^◌, ◌<◌, ◌≤◌, List, length, take, drop, inl, inr, arith, subst, Option}
 use Rattle.std.specs.Prelude.{min}
 use Rattle.std.proofs.lemmas.List.{length-take-le, take-append-drop}
 use Rattle.pre_mpacket.specs.Counters.{HoldsOf, CountersOf}

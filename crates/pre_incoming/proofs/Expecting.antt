@@ -6,7 +6,7 @@ use Rattle.pre_base.specs.declared.numbers.FrameNo.{FrameNo}
 use Rattle.pre_history.specs.declared.events.What.{What}
 use Rattle.pre_history.specs.declared.events.What.TheVariants as what
 use Rattle.pre_history.specs.Scenario.{Scenario, FrameOf}
-use Rattle.pre_history.specs.History.{Begin, Ended, History}
+use Rattle.pre_history.specs.History.{Ended, History}
 use Rattle.pre_history.specs.Queries.{Begins, Ends, Arrivals}
 use Rattle.pre_history.specs.Octets.{WholeOf, whole_of}
 use Rattle.pre_history.specs.Legal.{LegalUpTo}

@@ -1,5 +1,5 @@
 -- A history with no alias goes on with none.
-use Rattle.std.proofs.Common.{ℕ, suc, ◌≡◌, ◌≢◌, ◌+◌, ◌*◌, ◌<◌, List, ◌++◌, length, refl, sym, ◌∙◌, ap, inl, inr, arith, subst, Some}
+use Rattle.std.proofs.Common.{ℕ, suc, ◌≡◌, ◌≢◌, ◌+◌, ◌<◌, ◌++◌, length, refl, sym, ◌∙◌, ap, inl, inr, arith, subst, Some}
 use Rattle.std.specs.Prelude.{slice_get}
 use Rattle.pre_history.specs.Scenario.{Scenario, arc}
 use Rattle.pre_history.specs.Moments.{Phase, Moment, moments, moment_at, phase_at}

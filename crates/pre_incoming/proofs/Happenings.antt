@@ -1,5 +1,5 @@
 -- What lands at the end of an arc is what happens at the moment of its arrivals.
-use Rattle.std.proofs.Common.{ℕ, suc, ◌≡◌, ◌≢◌, ◌⊎◌, ◌==◌, ◌+◌, ◌<◌, ◌≤◌, Bool, true, false, List, [], ◌∷◌, ◌++◌, length, take, drop, refl, sym, ◌∙◌, ap, inl, inr, arith, subst, Option, Some, None, length-append}
+use Rattle.std.proofs.Common.{ℕ, suc, ◌≡◌, ◌≢◌, ◌+◌, ◌<◌, Bool, true, false, List, [], ◌∷◌, ◌++◌, length, take, drop, refl, sym, ◌∙◌, ap, inl, inr, arith, subst, Option, Some, None, length-append}
 use Rattle.std.specs.Prelude.{slice_get, if◌then◌else◌}
 use Rattle.std.specs.List.{AllZip}
 use Rattle.std.proofs.lemmas.Bool.{cases_lt}
@@ -7,21 +7,18 @@ use Rattle.std.proofs.lemmas.List.{append-nil}
 use Rattle.std.proofs.lemmas.List.Elements.{filter_map-append}
 use Rattle.pre_receive.specs.declared.receivers.Receiver.{Receiver}
 use Rattle.pre_receive.specs.Receivers.{Stands}
-use Rattle.pre_history.specs.Scenario.{Scenario, arc, FrameOf}
-use Rattle.pre_history.specs.Moments.{Phase, moments, moment_at}
-use Rattle.pre_history.specs.History.{Ended, History, PlainEvent}
+use Rattle.pre_history.specs.Scenario.{Scenario, arc}
+use Rattle.pre_history.specs.Moments.{Phase}
+use Rattle.pre_history.specs.History.{Ended, History}
 use Rattle.pre_history.specs.Selected.{ended_on, arrive_on}
 use Rattle.pre_history.specs.Queries.{Ends, Arrivals}
 use Rattle.pre_history.specs.Octets.{Air}
-use Rattle.pre_history.specs.Comings.{next_arc}
 use Rattle.pre_history.specs.Received.{Result}
-use Rattle.pre_history.specs.Rules.{HappensIn, WithDelivery, arrival, delivered}
+use Rattle.pre_history.specs.Rules.{HappensIn, WithDelivery, arrival}
 use Rattle.pre_history.specs.Legal.{Alias, ArrivesAsAlias, LegalBefore}
 use Rattle.pre_history.proofs.ArrivalTurns.{one_arrival}
-use Rattle.pre_history.proofs.InOrder.{steady}
-use Rattle.pre_history.proofs.Lists.{there, within, one_at, any_at, no_append}
+use Rattle.pre_history.proofs.Lists.{there, within, one_at, no_append}
 use Rattle.pre_history.proofs.Making.{arrives_one, arrives_none}
-use Rattle.pre_history.proofs.Moments.{moment_in, arrivals_place}
 use Rattle.pre_history.proofs.Placing.{phase_events}
 use Rattle.pre_history.specs.Placed.{AllWithin}
 use Rattle.pre_history.specs.Placed.{moment_of}

@@ -1,5 +1,5 @@
 -- The mPacket that is next on the wire, as it arrives, and what it carries.
-use Rattle.std.proofs.Common.{ℕ, suc, ◌≡◌, ◌≢◌, ◌==◌, ◌&&◌, nat_le, ◌+◌, ◌-◌, ◌<◌, ◌≤◌, Bool, true, false, List, [], ◌∷◌, ◌++◌, length, take, drop, refl, sym, ◌∙◌, ap, arith, subst, Option, Some, None, append_assoc, length-append}
+use Rattle.std.proofs.Common.{ℕ, suc, ◌≡◌, ◌==◌, ◌&&◌, nat_le, ◌+◌, ◌-◌, ◌<◌, Bool, true, List, [], ◌∷◌, ◌++◌, length, take, drop, refl, sym, ◌∙◌, ap, arith, subst, Option, Some, None, append_assoc, length-append}
 use Rattle.std.specs.Prelude.{slice_get, if◌then◌else◌, option_map}
 use Rattle.std.proofs.lemmas.Bool.Decides.{nat_tests}
 use Rattle.std.proofs.lemmas.List.{take-append-drop, length-take-le}
@@ -14,10 +14,10 @@ use Rattle.pre_history.specs.declared.events.What.{What}
 use Rattle.pre_history.specs.declared.events.What.TheVariants as what
 use Rattle.pre_history.specs.Scenario.{Scenario, arc}
 use Rattle.pre_history.specs.History.{Begin, Ended, History}
-use Rattle.pre_history.specs.Queries.{Begins, Ends, Arrivals, packet, end_of}
-use Rattle.pre_history.specs.Octets.{Air, Arrived, Damaged, SentOctets, WholeOf, whole_of, is_lost, smd_place, AdvertAt}
+use Rattle.pre_history.specs.Queries.{Begins, Ends, Arrivals, end_of}
+use Rattle.pre_history.specs.Octets.{Air, Damaged, SentOctets, WholeOf, whole_of, is_lost, smd_place, AdvertAt}
 use Rattle.pre_history.specs.Starts.{Item, Choice, There, SizeOf}
-use Rattle.pre_history.specs.Rules.{CheckOf, last_four}
+use Rattle.pre_history.specs.Rules.{last_four}
 use Rattle.pre_history.specs.Legal.{LegalUpTo}
 use Rattle.pre_history.specs.Ordered.{IsOrdered}
 use Rattle.pre_history.proofs.Free.{first_numbered}

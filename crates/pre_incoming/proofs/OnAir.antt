@@ -1,17 +1,16 @@
 -- What comes of the mPackets that ended stays with later events.
-use Rattle.std.proofs.Common.{ℕ, zero, suc, ◌≡◌, ◌==◌, ◌+◌, ◌-◌, ◌<◌, ◌≤◌, List, [], ◌∷◌, ◌++◌, length, take, drop, refl, sym, ◌∙◌, ap, arith, subst, Option, Some}
+use Rattle.std.proofs.Common.{ℕ, zero, suc, ◌≡◌, ◌+◌, ◌-◌, ◌<◌, ◌≤◌, List, [], ◌∷◌, ◌++◌, length, take, drop, refl, sym, ◌∙◌, ap, arith, subst, Option, Some}
 use Rattle.std.specs.Prelude.{◌↔◌, IsTrue, slice_get}
 use Rattle.std.specs.List.{AllZip}
 use Rattle.std.proofs.lemmas.List.Elements.{filter_map-append}
 use Rattle.std.proofs.lemmas.List.{length-map}
 use Rattle.pre_mpacket.specs.Spelling.{head_of}
-use Rattle.pre_receive.specs.declared.receivers.Receiver.{Receiver}
 use Rattle.pre_receive.specs.Receivers.{Stands}
-use Rattle.pre_history.specs.Scenario.{Scenario, arc}
+use Rattle.pre_history.specs.Scenario.{Scenario}
 use Rattle.pre_history.specs.History.{Begin, Ended, History}
 use Rattle.pre_history.specs.Selected.{begin_on, ended_on, arrive_on}
 use Rattle.pre_history.specs.Queries.{Begins, Ends, Arrivals, Packets, packet}
-use Rattle.pre_history.specs.Octets.{Air, Arrived, WholeOf, SentOctets}
+use Rattle.pre_history.specs.Octets.{Air, Arrived}
 use Rattle.pre_history.specs.Legal.{LegalUpTo}
 use Rattle.pre_history.proofs.Lists.{within, at_front, no_append}
 use Rattle.pre_history.proofs.Chosen.{take_like}

@@ -1,10 +1,8 @@
 -- What the events of a landing tell.
-use Rattle.std.proofs.Common.{ℕ, ◌≡◌, ◌≢◌, ◌==◌, Bool, true, false, List, [], ◌∷◌, refl, ◌∙◌, arith, Option, Some, None}
-use Rattle.std.specs.Prelude.{if◌then◌else◌}
+use Rattle.std.proofs.Common.{ℕ, ◌≡◌, ◌≢◌, ◌==◌, true, false, List, [], ◌∷◌, refl, arith, Option, Some, None}
 use Rattle.std.proofs.lemmas.Bool.Decides.{nat_tests}
-use Rattle.pre_base.specs.declared.numbers.FrameNo.{FrameNo}
 use Rattle.pre_history.specs.Scenario.{Scenario, arc, FrameOf}
-use Rattle.pre_history.specs.History.{Arrive, History, PlainEvent}
+use Rattle.pre_history.specs.History.{History}
 use Rattle.pre_history.specs.Queries.{Arrivals, Begins, Ends, Entries}
 use Rattle.pre_history.specs.Comings.{next_arc}
 use Rattle.pre_history.specs.Rules.{arrival, delivered}

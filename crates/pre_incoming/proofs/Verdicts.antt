@@ -1,11 +1,9 @@
 -- What a landing comes to is the result of the arrival, or the arrival is an alias.
-use Rattle.std.proofs.Common.{ℕ, suc, ◌≡◌, ◌≢◌, ◌⊎◌, ◌+◌, ◌<◌, Bool, true, false, List, [], ◌∷◌, ◌++◌, length, take, refl, sym, ◌∙◌, ap, inl, inr, subst, Option, Some, None}
+use Rattle.std.proofs.Common.{ℕ, ◌≡◌, ◌≢◌, ◌⊎◌, ◌<◌, Bool, true, false, List, [], ◌∷◌, ◌++◌, length, take, refl, sym, ◌∙◌, ap, inl, inr, subst, Option, Some}
 use Rattle.std.specs.Prelude.{slice_get, if◌then◌else◌, option_and_then}
-use Rattle.pre_base.specs.declared.numbers.FrameNo.{FrameNo}
 use Rattle.pre_mpacket.specs.declared.packets.Kind.TheVariants as kind
 use Rattle.pre_mpacket.specs.Arrivals.{Given, Gives, GivesNothing, IsLost}
 use Rattle.pre_lldp.specs.LldpLayout.{is_lldp_frame}
-use Rattle.pre_receive.specs.declared.receivers.Receiver.{Receiver}
 use Rattle.pre_receive.specs.Takings.{Taking, gave, gave_nothing, IsTaken}
 use Rattle.pre_history.specs.declared.events.What.{What}
 use Rattle.pre_history.specs.declared.events.What.TheVariants as what
@@ -27,12 +25,11 @@ use Rattle.pre_history.proofs.Known.{one_given, sent_lldp}
 use Rattle.pre_incoming.specs.declared.wires.OnWire.{OnWire}
 use Rattle.pre_incoming.specs.declared.landings.Landed.{Landed}
 use Rattle.pre_incoming.specs.declared.landings.Landed.TheVariants as landed
-use Rattle.pre_incoming.specs.Arriving.{arrived, Comes, HasFront}
-use Rattle.pre_incoming.specs.Changes.{loses}
+use Rattle.pre_incoming.specs.Arriving.{HasFront}
 use Rattle.pre_incoming.specs.Judging.{Judged, carried, expected}
 use Rattle.pre_incoming.specs.Landings.{result_of, delivery, IsGiven}
 use Rattle.pre_incoming.specs.Wires.{IsOnWire}
-use Rattle.pre_incoming.proofs.NextOne.{at_begin, air_is, gives_as_last}
+use Rattle.pre_incoming.proofs.NextOne.{at_begin, gives_as_last}
 use Rattle.pre_incoming.proofs.Expecting.{is_last, is_expected}
 
 -- what gives nothing is no alias

@@ -1,5 +1,5 @@
 -- What the end of an arc makes of the mPacket that is due, in the terms of a history.
-use Rattle.std.specs.Prelude.{◌≡◌, ◌<◌, ◌≤◌, ℕ, suc, true, ◌+◌, List, [], ◌∷◌, ◌++◌, length, take, slice_get, Option, Some, None}
+use Rattle.std.specs.Prelude.{◌≡◌, ◌<◌, ℕ, suc, true, List, [], ◌∷◌, ◌++◌, length, take, slice_get, Option, Some, None}
 use Rattle.pre_base.specs.declared.numbers.FrameNo.{FrameNo}
 use Rattle.pre_lldp.specs.LldpLayout.{is_lldp_frame}
 use Rattle.pre_history.specs.declared.events.What.TheVariants as what

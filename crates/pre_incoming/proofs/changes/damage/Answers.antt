@@ -1,9 +1,7 @@
-use Rattle.std.proofs.Common.{◌≡◌, ◌==◌, ◌&&◌, ◌+◌, ◌^◌, ◌-◌, ◌≤◌, true, false, length, take, sym, ◌∙◌, ap, arith, Some}
+use Rattle.std.proofs.Common.{◌≡◌, ◌+◌, ◌^◌, ◌-◌, sym, ◌∙◌, ap, arith, Some}
 use Rattle.std.specs.Prelude.{slice_get}
-use Rattle.std.proofs.lemmas.Bool.Decides.{nat_tests}
 use Rattle.pre_history.specs.Octets.{xored}
 use Rattle.pre_history.proofs.Lists.{found_at}
-use Rattle.pre_incoming.specs.Changes.{damaged_by}
 use Rattle.pre_incoming.proofs.Damaging.{none_yet, applied, of_other, of_other_arc, cut_off}
 use Rattle.pre_incoming.proofs.changes.damage.Goals as goal
 use Rattle.pre_incoming.proofs.changes.damage.Goals.{then-eq+then-line-ordinal, else-eq, else-eq-via-then-eq+else-line-ordinal, else-eq-via-else-eq}
