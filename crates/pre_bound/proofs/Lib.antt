@@ -1,7 +1,7 @@
 pub mod Solved
 pub mod Sums
 pub mod Hops
-mod Ranked
+pub mod Ranked
 pub mod Within
 pub mod AtLeast
 pub mod Settling

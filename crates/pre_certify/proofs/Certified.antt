@@ -1,5 +1,5 @@
 -- The rows that were found are those of a certificate, and within the limit.
-use Rattle.std.proofs.Common.{◌≡◌, ℕ, zero, suc, ◌+◌, ◌*◌, ◌/◌, ◌%◌, ◌<◌, ◌≤◌, ◌^◌, Bool, true, false, cond, List, [], ◌∷◌, ◌++◌, Option, Some, None, refl, sym, ◌∙◌, ap, subst, arith, inl, inr, length, get_or, map}
+use Rattle.std.proofs.Common.{◌≡◌, ℕ, zero, suc, ◌+◌, ◌*◌, ◌/◌, ◌%◌, ◌<◌, ◌≤◌, ◌^◌, Bool, true, false, cond, List, [], ◌∷◌, ◌++◌, Option, Some, None, refl, sym, ◌∙◌, ap, subst, arith, inl, inr, length, get_or, map, if◌then◌else◌}
 use Rattle.std.specs.Prelude.{slice_get, All, filter, Contains, nat_lt, ◌||◌, unwrap_or, slice_index, is_none, IfSome}
 use Rattle.std.specs.Option.{option_map_or}
 use Rattle.std.specs.List.{range_with_len, enumerate_from, flat_map, list_any}
@@ -9,7 +9,7 @@ use Rattle.std.proofs.lemmas.List.Sums.{sum_by-cons}
 use Rattle.std.proofs.lemmas.List.Elements.{All-nil, All-cons, All-head, All-tail, All-append, All-map}
 use Rattle.std.proofs.lemmas.List.FromFn.{get_or-range_with_len, length-range_with_len}
 use Rattle.std.proofs.lemmas.Option.{slice_get_within, slice_get-get_or, get_or_from_slice_get}
-use Rattle.pre_base.specs.declared.numbers.ArcId.{ArcId}
+use Rattle.pre_base.specs.declared.limits.TheConstants.{GREATEST_FRAME}
 use Rattle.pre_base.specs.declared.numbers.StreamId.{StreamId}
 use Rattle.pre_curve.specs.declared.curves.Curve.{Curve}
 use Rattle.pre_topo.specs.declared.network.Network.{Network}
@@ -17,11 +17,12 @@ use Rattle.pre_streams.specs.declared.rows.Row.{Row}
 use Rattle.pre_streams.specs.declared.rows.Streams.{Streams}
 use Rattle.pre_streams.specs.Fits.{Fits}
 use Rattle.pre_streams.specs.Rows.{IsCurveOf}
+use Rattle.pre_bound.specs.declared.rows.ArcRow.{ArcRow}
 use Rattle.pre_bound.specs.declared.rows.HopRow.{HopRow}
 use Rattle.pre_bound.specs.declared.rows.PortRow.{PortRow}
 use Rattle.pre_bound.specs.declared.certificate.Certificate.{Certificate}
-use Rattle.pre_bound.specs.Limits.{limit, PortIsWithin, IsWithin}
-use Rattle.pre_bound.specs.Uses.{is_stream, has_arc, has_port, cost_at}
+use Rattle.pre_bound.specs.Limits.{limit, ArcIsWithin, PortIsWithin, IsWithin}
+use Rattle.pre_bound.specs.Uses.{is_stream, has_arc, has_flow, has_port, cost_at, largest_at, largest_used}
 use Rattle.pre_bound.specs.Along.{Delays, burst_at, route_ticks, least_block, least_work, port_delay, port_size}
 use Rattle.pre_bound.specs.Chains.{AreRanks, IsRank}
 use Rattle.pre_bound.specs.Good.{AtStreams, IsStream}
@@ -32,7 +33,7 @@ use Rattle.pre_bound.specs.Passing.{ticks_before, port_passes, stream_passes}
 use Rattle.pre_certify.specs.Loads.{NoOverload}
 use Rattle.pre_certify.specs.Tables.{delays_in}
 use Rattle.pre_certify.specs.Turns.{IsTable, ranks_in}
-use Rattle.pre_certify.specs.Written.{rank_at, values_at, hops_at, all_hops, bound_at}
+use Rattle.pre_certify.specs.Written.{arc_at, values_at, hops_at, all_hops, bound_at}
 use Rattle.pre_certify.specs.Peels.{IsOpen, Peeled, open_count}
 use Rattle.pre_certify.specs.Peelings.{PeelsRows}
 use Rattle.pre_certify.specs.Ranked.{HaveRanks}
@@ -214,19 +215,39 @@ ranks_few rows round rs none peeled few a =
       | inr past ↦ let same = past_end rs a past in omega (arith, same)
     ]
 
+-- no arc carries a frame above the limit
+largest_small : (net : Network) (rows : List Row) (a : ℕ) → largest_used net rows a ≤ limit
+largest_small net rows a = by_cases (has_flow rows a)
+  where
+    carried : (o : Option Arc) → slice_get net.arcs a ≡ o → option_map_or (λ x. x.largest) o 0 ≤ limit
+    carried None e = omega arith
+    carried (Some x) e =
+        let rule = net.rules.each_arc a x (slice_get_within net.arcs a x e) in
+        let same : get_or net.arcs a x ≡ x = get_or_from_slice_get net.arcs a x x e in
+        let most : x.largest ≤ GREATEST_FRAME = subst (λ y. y.largest ≤ GREATEST_FRAME) same rule.largest.1 in
+        omega (arith, most)
+
+    by_cases : (b : Bool) → (if b then largest_at net a else 0) ≤ limit
+    by_cases true = carried (slice_get net.arcs a) refl
+    by_cases false = omega arith
+
 -- the four lists of rows are within the limit
-pub rows_within : (net : Network) (rows : List Row) (ranks table : List ℕ) (c : List (ArcId × ℕ)) (ports : List PortRow) (hops : List HopRow) (bounds : List (StreamId × ℕ))
+pub rows_within : (net : Network) (rows : List Row) (ranks table : List ℕ) (c : List ArcRow) (ports : List PortRow) (hops : List HopRow) (bounds : List (StreamId × ℕ))
     → NoOverload net rows → ((a : ℕ) → ranks_in ranks a ≤ 256) → IsTable net rows table → ((a : ℕ) → a < length net.arcs → 1 ≤ cost_at net a)
     → AtStreams rows (λ stream r. (hop : ℕ) → hop < length r.arcs → burst_at net (delays_in table) r hop ≤ limit)
     → AtStreams rows (λ stream r. ticks_before net (delays_in table) r (length r.arcs) ≤ limit)
-    → c ≡ map (rank_at ranks) (filter (has_arc rows) (range_with_len 0 (length ranks)))
+    → c ≡ map (arc_at net rows ranks) (filter (has_arc rows) (range_with_len 0 (length ranks)))
     → ports ≡ map (port_row (values_at net rows (delays_in table))) (ports_of net rows)
     → hops ≡ all_hops net (delays_in table) (streams_of rows)
     → bounds ≡ map (bound_at net (delays_in table)) (streams_of rows)
     → IsWithin c ports hops bounds
 rows_within net rows ranks table c ports hops bounds load few t some bursts ticks e f g h = record {
-  each_rank = subst (λ l. All (λ row. row.1 ≤ limit) l) (sym e)
-      (All-map (λ row. row.1 ≤ limit) (rank_at ranks) (filter (has_arc rows) (range_with_len 0 (length ranks))) (λ k d inside. let small = few (get_or (filter (has_arc rows) (range_with_len 0 (length ranks))) k d) in omega (arith, small)));
+  each_arc = subst (λ l. All ArcIsWithin l) (sym e)
+      (All-map ArcIsWithin (arc_at net rows ranks) (filter (has_arc rows) (range_with_len 0 (length ranks)))
+      (λ k d inside.
+      let a = get_or (filter (has_arc rows) (range_with_len 0 (length ranks))) k d in
+      let small = few a in
+      record { rank = omega (arith, small); largest = largest_small net rows a }));
   each_port = subst (λ l. All PortIsWithin l) (sym f)
       (All-map PortIsWithin (port_row (values_at net rows (delays_in table))) (ports_of net rows)
       (All-filtered (λ k. PortIsWithin (port_row (values_at net rows (delays_in table)) k)) (λ place. has_port rows (place / 8) (place % 8)) (range_with_len 0 (length net.arcs * 8))
@@ -242,13 +263,13 @@ rows_within net rows ranks table c ports hops bounds load few t some bursts tick
 }
 
 pub says_written : (net : Network) (rows : List Row) (ranks table : List ℕ) (c : Certificate) → length ranks ≡ length net.arcs
-    → c.ranks ≡ map (rank_at ranks) (filter (has_arc rows) (range_with_len 0 (length ranks)))
+    → c.arcs ≡ map (arc_at net rows ranks) (filter (has_arc rows) (range_with_len 0 (length ranks)))
     → c.ports ≡ map (port_row (values_at net rows (delays_in table))) (ports_of net rows)
     → c.hops ≡ all_hops net (delays_in table) (streams_of rows)
     → c.bounds ≡ map (bound_at net (delays_in table)) (streams_of rows)
     → Says net rows c (values_over net rows (ranks_in ranks) (delays_in table))
 says_written net rows ranks table c long e f g h = record {
-  ranks = e ∙ ap (λ n. map (rank_at ranks) (filter (has_arc rows) (range_with_len 0 n))) long;
+  arcs = e ∙ ap (λ n. map (arc_at net rows ranks) (filter (has_arc rows) (range_with_len 0 n))) long;
   ports = f;
   hops = g ∙ hops_written net rows ranks table;
   bounds = h ∙ bounds_written net rows ranks table;

@@ -12,11 +12,12 @@ use Rattle.pre_bound.specs.Uses.{rates_on, cost_at}
 use Rattle.pre_bound.specs.Along.{port_size}
 use Rattle.pre_bound.specs.Chains.{AreRanks}
 use Rattle.pre_bound.specs.Settled.{PriosBelow}
-use Rattle.pre_bound.specs.Listed.{HasGood}
+use Rattle.pre_bound.specs.Listed.{HasGood, HasRanks}
 use Rattle.pre_bound.specs.Least.{Least}
 use Rattle.pre_bound.specs.Order.{Rise}
 use Rattle.pre_bound.specs.Promises.{RanksRise}
 use Rattle.pre_bound.specs.Complete.{SettledBelow, GoodPassNowhere, GoodHaveRoom, SettledAlike}
+use Rattle.pre_bound.proofs.Ranked.{ranks_rise}
 use Rattle.pre_certify.specs.Loads.{FirstOverload, NoOverload}
 use Rattle.pre_certify.specs.Turns.{turn_of}
 use Rattle.pre_certify.specs.Causes.{Cause, Walks, Closes, IsCycle, FirstLarge, FirstShort}
@@ -88,7 +89,7 @@ module _ (net : Network) (streams : Streams) (fits : Fits net streams) (prios : 
 
     pub none_refuses : NoneRefuses net streams.rows
     none_refuses (Overload arc) cause = absurd (overload_good arc.0 cause)
-    none_refuses (Cycle arcs) cause = absurd (no_cycle streams.rows good.1.values.rank good.1.good.rank_order arcs cause.1.closes)
+    none_refuses (Cycle arcs) cause = absurd (no_cycle streams.rows good.1.values.rank (ranks_rise net streams good.0 good.1 fits prios good.2) arcs cause.1.closes)
     none_refuses (Large arc prio) cause = absurd (large_good arc.0 prio cause.1)
     none_refuses (Ring arc prio need) cause = absurd (ring_good arc.0 prio need cause.1)
     none_refuses Memory cause = refl
@@ -213,9 +214,9 @@ module _ (net : Network) (streams : Streams) (fits : Fits net streams) (prios : 
   complete_answer law (Ok c) cause good = tt
   complete_answer law (Err e) cause good = law net streams fits prios good e cause
 
-  pub no_refusal : GoodRefusesNone → (r : Result Certificate Unfit) → IfOk r (Least net streams) → IfOk r (λ c. NoneRefuses net streams.rows)
-  no_refusal law (Ok c) least = law net streams fits prios (c, least.good)
-  no_refusal law (Err e) least = tt
+  pub no_refusal : GoodRefusesNone → (r : Result Certificate Unfit) → IfOk r (Least net streams) → IfOk r HasRanks → IfOk r (λ c. NoneRefuses net streams.rows)
+  no_refusal law (Ok c) least ranked = law net streams fits prios (c, least.good, ranked)
+  no_refusal law (Err e) least ranked = tt
 
   -- want of memory, or none
   memory_or : (e : Unfit) → (e ≡ Memory) ⊎ ¬ (e ≡ Memory)

@@ -1,18 +1,19 @@
 -- The rows of a certificate, as they are found.
-use Rattle.std.specs.Prelude.{ℕ, List, length, map, slice_index}
+use Rattle.std.specs.Prelude.{ℕ, List, Some, length, map, slice_index}
 use Rattle.std.specs.List.{range_with_len, flat_map}
-use Rattle.pre_base.specs.declared.numbers.ArcId.{ArcId}
 use Rattle.pre_base.specs.declared.numbers.StreamId.{StreamId}
 use Rattle.pre_topo.specs.declared.network.Network.{Network}
 use Rattle.pre_streams.specs.declared.rows.Row.{Row}
+use Rattle.pre_bound.specs.declared.rows.ArcRow.{ArcRow}
 use Rattle.pre_bound.specs.declared.rows.HopRow.{HopRow}
+use Rattle.pre_bound.specs.Uses.{largest_used}
 use Rattle.pre_bound.specs.Along.{Delays, burst_at}
 use Rattle.pre_bound.specs.Values.{Values}
 use Rattle.pre_bound.specs.Settled.{values_over}
 use Rattle.pre_bound.specs.Passing.{ticks_before}
 
-abbrev pub rank_at : List ℕ → ℕ → ArcId × ℕ
-rank_at ranks arc = (record { 0 = arc }, slice_index ranks arc)
+abbrev pub arc_at : Network → List Row → List ℕ → ℕ → ArcRow
+arc_at net rows ranks arc = record { arc = record { 0 = arc }; rank = Some (slice_index ranks arc); largest = largest_used net rows arc }
 
 -- the numbers of the ports
 abbrev pub values_at : Network → List Row → Delays → Values

@@ -5,7 +5,7 @@ ghost use Rattle.pre_bound.specs.Along.{burst_at};
 ghost use Rattle.pre_bound.specs.Chains.{AreRanks};
 ghost use Rattle.pre_bound.specs.Good.{AtStreams};
 ghost use Rattle.pre_bound.specs.Settled.{PriosBelow, values_over};
-ghost use Rattle.pre_bound.specs.Listed.{Says, HasGood};
+ghost use Rattle.pre_bound.specs.Listed.{Says, HasGood, HasRanks};
 ghost use Rattle.pre_bound.specs.Least.{Least};
 ghost use Rattle.pre_bound.specs.Passing.{ticks_before};
 ghost use Rattle.pre_certify.specs.Loads.{NoOverload};
@@ -23,7 +23,7 @@ use crate::laws::refusal_law;
 use crate::loads::first_overload;
 use crate::ranks::{Peeling, peeled};
 use crate::rings::rings_fit;
-use crate::rows::{bound_rows, hop_rows, port_rows, rank_rows};
+use crate::rows::{arc_rows, bound_rows, hop_rows, port_rows};
 use crate::settle::settle;
 use pre_base::Items;
 use pre_bound::{Certificate, limit_law, order_law, settled_law};
@@ -60,12 +60,12 @@ fn written(
     requires bounds { AtStreams rows.now (λ stream r. ticks_before net.now (delays_in delays.now) r (length r.arcs) ≤ limit) }
     ensures { IfOk result (λ c. Says net.now rows.now c (values_over net.now rows.now (ranks_in ranks.now) (delays_in delays.now))) }
 {
-    let ranks = rank_rows(alloc, rows, ranks)?;
+    let arcs = arc_rows(alloc, net, rows, ranks)?;
     let ports = port_rows(alloc, net, rows, delays)?;
     let hops = hop_rows(alloc, net, rows, delays)?;
     let bounds = bound_rows(alloc, net, rows, delays)?;
     Ok(Certificate {
-        ranks,
+        arcs,
         ports,
         hops,
         bounds,
@@ -110,6 +110,7 @@ fn finished(
     requires ranks { HaveRanks net.now streams.now.rows ranks.now }
     requires table { IsTable net.now streams.now.rows delays.now }
     ensures least { IfOk result (Least net.now streams.now) }
+    ensures ranked { IfOk result HasRanks }
     ensures cause { IfErr result (Cause net.now streams.now.rows) }
 {
     limit_law();
@@ -132,6 +133,7 @@ fn certified(
     requires load { NoOverload net.now streams.now.rows }
     requires ranks { HaveRanks net.now streams.now.rows ranks.now }
     ensures least { IfOk result (Least net.now streams.now) }
+    ensures ranked { IfOk result HasRanks }
     ensures cause { IfErr result (Cause net.now streams.now.rows) }
 {
     order_law();
@@ -146,6 +148,7 @@ fn certificate_of(alloc: Global, net: &Network, streams: &Streams) -> Result<Cer
     requires fits { Fits net.now streams.now }
     requires prios { PriosBelow streams.now.rows }
     ensures least { IfOk result (Least net.now streams.now) }
+    ensures ranked { IfOk result HasRanks }
     ensures cause { IfErr result (Cause net.now streams.now.rows) }
 {
     order_law();
@@ -159,7 +162,8 @@ fn certificate_of(alloc: Global, net: &Network, streams: &Streams) -> Result<Cer
     }
 }
 
-/// The least certificate of the streams, each number of which is at most that of every good one; or why there is none:
+/// The least certificate of the streams with ranks, each number of which is at most that of every good one with ranks; or why
+/// there is none:
 ///
 /// - `Overload`: the least arc whose streams want all of its time;
 /// - `Cycle`: arcs that follow one another on routes in a cycle, the least one first;
@@ -167,11 +171,12 @@ fn certificate_of(alloc: Global, net: &Network, streams: &Streams) -> Result<Cer
 /// - `Ring`: the first port, by arc and priority, whose ring has too little room, and the room that it needs;
 /// - `Memory`.
 ///
-/// Each comes only where none of those before it does. No refusal but `Memory` comes where there is a good certificate,
-/// and where one has a cause, no other answer comes, but `Memory` and the choice of a cycle.
+/// Each comes only where none of those before it does. No refusal but `Memory` comes where there is a good certificate with
+/// ranks, and where one has a cause, no other answer comes, but `Memory` and the choice of a cycle.
 pub fn certify(alloc: Global, net: &Network, streams: &Streams) -> Result<Certificate, Unfit>
     requires { Fits net.now streams.now }
     ensures least { IfOk result (Least net.now streams.now) }
+    ensures ranked { IfOk result HasRanks }
     ensures cause { IfErr result (Cause net.now streams.now.rows) }
     ensures complete { HasGood net.now streams.now → IfErr result (λ e. e ≡ Memory) }
     ensures none { IfOk result (λ c. NoneRefuses net.now streams.now.rows) }

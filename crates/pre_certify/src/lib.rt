@@ -22,7 +22,7 @@ pub use unfit::Unfit;
 mod tests {
     use super::*;
     use pre_base::{ArcId, Prio, StreamId};
-    use pre_bound::{HopRow, PortRow};
+    use pre_bound::{ArcRow, HopRow, PortRow};
     use std::test::Fail;
 
     // One stream of burst 2000 and rate 100000 over one arc of one tick an octet, behind a fragment of 143 octets.
@@ -34,7 +34,12 @@ mod tests {
             assert!(rt; false);
             return Ok(());
         };
-        assert_eq!(rt; certificate.ranks.as_slice(), [(ArcId(0), 0)].as_slice());
+        let arc = ArcRow {
+            arc: ArcId(0),
+            rank: Some(0),
+            largest: 1522,
+        };
+        assert_eq!(rt; certificate.arcs.as_slice(), [arc].as_slice());
         let port = PortRow {
             arc: ArcId(0),
             prio: Prio(6),

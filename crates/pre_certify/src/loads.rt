@@ -1,5 +1,5 @@
 ghost use Rattle.std.specs.Prelude.{◌≡◌, ℕ, ◌+◌, ◌*◌, ◌<◌, ◌≤◌, ◌^◌, length, IfSome, IfNone};
-ghost use Rattle.pre_bound.specs.Uses.{is_stream, is_on, takes, hop_of, has_port, has_arc, rate_of, burst_of, rates_on, cost_at, ring_at};
+ghost use Rattle.pre_bound.specs.Uses.{is_stream, is_on, takes, hop_of, has_port, has_arc, has_flow, rate_of, burst_of, rates_on, cost_at, ring_at};
 ghost use Rattle.pre_certify.specs.Loads.{is_overloaded, FirstOverload, NoOverload};
 
 use pre_base::{ArcId, Prio};
@@ -37,6 +37,14 @@ pub(crate) fn has_arc(rows: &[Row], arc: ArcId) -> bool
     ensures { result ≡ has_arc rows.now arc.0 }
 {
     rows.iter().any(|row| is_on(row, arc, 0, 8))
+}
+
+/// Whether a flow's route takes the arc.
+pub(crate) fn has_flow(rows: &[Row], arc: ArcId) -> bool
+    ensures { result ≡ has_flow rows.now arc.0 }
+{
+    rows.iter()
+        .any(|row| row.curve.is_none() && takes(row, arc))
 }
 
 /// The hop at which the route takes the arc, and the number of its hops where it doesn't.

@@ -1,7 +1,7 @@
 ghost use Rattle.std.specs.Prelude.{◌≡◌, ℕ, ◌+◌, ◌*◌, ◌<◌, ◌≤◌, ◌^◌, length, take, IsTrue, MatchOption, true, false, nat_lt};
 ghost use Rattle.std.specs.List.{list_any};
 ghost use Rattle.std.specs.Option.{SomeIff};
-ghost use Rattle.pre_bound.specs.Uses.{is_on, hop_of, takes, block_octets, preemptable_octets, preemptable_at, cost_at, rates_on};
+ghost use Rattle.pre_bound.specs.Uses.{is_on, hop_of, takes, block_octets, fragment_octets, preemptable_octets, preemptable_at, largest_at, largest_used, cost_at, rates_on};
 ghost use Rattle.pre_bound.specs.Along.{burst_at, burst_on, bursts_on, hop_ticks, route_ticks, least_work, port_delay};
 ghost use Rattle.pre_bound.specs.Clauses.{Load};
 ghost use Rattle.pre_topo.specs.Arcs.{latency_at};
@@ -9,8 +9,8 @@ ghost use Rattle.pre_certify.specs.Tables.{delays_in, AreWithin};
 ghost use Rattle.pre_bound.specs.Passing.{next_passes, ticks_before, ticks_through, stream_passes, size_over, port_passes, passes, least_port};
 ghost use Rattle.pre_certify.specs.Loads.{is_overloaded};
 
-use crate::loads::{burst_of, cost_at, hop_of, is_on, rate_of, rates_on};
-use pre_base::{ArcId, NodeId, Prio};
+use crate::loads::{burst_of, cost_at, has_flow, hop_of, is_on, rate_of, rates_on};
+use pre_base::{ArcId, NodeId, OVERHEAD, Prio};
 use pre_bound::{Certificate, PortRow, grown, hop_delay, queue_size};
 use pre_streams::Row;
 use pre_topo::{Arc, Mode, Network, Policy};
@@ -80,25 +80,60 @@ fn bursts_on(
     Some(bursts)
 }
 
-/// The octets for which preemptable traffic can hold the arc.
-fn preemptable_octets(arc: &Arc) -> u64
-    ensures octets { result ≡ preemptable_octets arc.now }
-    ensures within { result ≤ 10 ^ 5 }
+/// The greatest preemptable frame that the arc carries, in octets.
+pub(crate) fn largest_at(net: &Network, arc: ArcId) -> u64
+    ensures largest { result ≡ largest_at net.now arc.0 }
+    ensures within { result ≤ 65535 }
 {
-    let cut = 64 * (1 + u64::from(arc.add_frag)) + 79;
-    match (arc.mode, arc.policy) {
-        (Mode::On, _) | (Mode::Negotiate, Policy::Quiet) => cut,
-        (Mode::Off, _) | (Mode::Negotiate, Policy::Pass) => 1542,
+    match net.arcs.as_slice().get(arc.0 as usize) {
+        Some(a) => u64::from(a.largest),
+        None => 0,
     }
 }
 
-/// The same, of the arc of this number.
-fn preemptable_at(net: &Network, arc: ArcId) -> u64
-    ensures octets { result ≡ preemptable_at net.now arc.0 }
+/// The same, and 0 where no flow uses the arc.
+pub(crate) fn largest_used(net: &Network, rows: &[Row], arc: ArcId) -> u64
+    ensures largest { result ≡ largest_used net.now rows.now arc.0 }
+    ensures within { result ≤ 65535 }
+{
+    if has_flow(rows, arc) {
+        largest_at(net, arc)
+    } else {
+        0
+    }
+}
+
+/// The octets of a fragment that can't be cut yet, with those that can't be cut off and a continuation's overhead.
+fn fragment_octets(arc: &Arc) -> u64
+    ensures octets { result ≡ fragment_octets arc.now }
+    ensures within { result ≤ 20000 }
+{
+    64 * (1 + u64::from(arc.add_frag)) + 79
+}
+
+/// The octets for which preemptable frames of up to so many octets can hold the arc.
+fn preemptable_octets(arc: &Arc, largest: u64) -> u64
+    requires { largest ≤ 65535 }
+    ensures octets { result ≡ preemptable_octets arc.now largest }
+    ensures within { result ≤ 10 ^ 5 }
+{
+    if largest == 0 {
+        return 0;
+    }
+    let whole = largest + u64::from(OVERHEAD);
+    match (arc.mode, arc.policy) {
+        (Mode::On, _) | (Mode::Negotiate, Policy::Quiet) => whole.min(fragment_octets(arc)),
+        (Mode::Off, _) | (Mode::Negotiate, Policy::Pass) => whole,
+    }
+}
+
+/// The octets for which the arc's preemptable frames can hold it.
+fn preemptable_at(net: &Network, rows: &[Row], arc: ArcId) -> u64
+    ensures octets { result ≡ preemptable_at net.now arc.0 (largest_used net.now rows.now arc.0) }
     ensures within { result ≤ 10 ^ 5 }
 {
     match net.arcs.as_slice().get(arc.0 as usize) {
-        Some(a) => preemptable_octets(a),
+        Some(a) => preemptable_octets(a, largest_used(net, rows, arc)),
         None => 0,
     }
 }
@@ -108,10 +143,10 @@ fn block_octets(net: &Network, rows: &[Row], arc: ArcId, prio: u8) -> u64
     ensures octets { result ≡ block_octets net.now rows.now arc.0 prio }
     ensures within { result ≤ 10 ^ 5 }
 {
-    let mut most = preemptable_at(net, arc).max(84);
+    let mut most = preemptable_at(net, rows, arc).max(84);
     for row in rows {
         if is_on(row, arc, 0, prio) {
-            most = most.max(u64::from(row.max) + 20);
+            most = most.max(u64::from(row.max) + u64::from(OVERHEAD));
         }
     }
     most

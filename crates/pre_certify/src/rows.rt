@@ -10,30 +10,36 @@ ghost use Rattle.pre_bound.specs.Passing.{ticks_before};
 ghost use Rattle.pre_certify.specs.Loads.{NoOverload};
 ghost use Rattle.pre_certify.specs.Tables.{delays_in, AreWithin};
 ghost use Rattle.pre_certify.specs.Turns.{IsTable};
-ghost use Rattle.pre_certify.specs.Written.{rank_at, values_at, hops_at, all_hops, bound_at};
+ghost use Rattle.pre_certify.specs.Written.{arc_at, values_at, hops_at, all_hops, bound_at};
 
 use crate::loads::{has_arc, has_port};
-use crate::ports::{burst_at, ticks_before};
+use crate::ports::{burst_at, largest_used, ticks_before};
 use crate::rings::settled_row;
 use pre_base::{ArcId, Items, StreamId};
-use pre_bound::{HopRow, PortRow};
+use pre_bound::{ArcRow, HopRow, PortRow};
 use pre_streams::Row;
 use pre_topo::Network;
 use std::alloc::{AllocError, Global};
 
-/// The ranks of the arcs that streams use.
-pub(crate) fn rank_rows(
+/// The rows of the arcs that streams use.
+pub(crate) fn arc_rows(
     alloc: Global,
+    net: &Network,
     rows: &[Row],
     ranks: &[u64],
-) -> Result<Items<(ArcId, u64)>, AllocError>
+) -> Result<Items<ArcRow>, AllocError>
     requires { length ranks.now ≤ 256 }
-    ensures { IfOk result (λ found. found ≡ map (rank_at ranks.now) (filter (has_arc rows.now) (range_with_len 0 (length ranks.now)))) }
+    ensures { IfOk result (λ found. found ≡ map (arc_at net.now rows.now ranks.now) (filter (has_arc rows.now) (range_with_len 0 (length ranks.now)))) }
 {
     let mut found = Items::new(alloc);
-    for arc in 0..ranks.len() as u16 {
-        if has_arc(rows, ArcId(arc)) {
-            found.push((ArcId(arc), ranks[arc as usize]))?;
+    for place in 0..ranks.len() as u16 {
+        let arc = ArcId(place);
+        if has_arc(rows, arc) {
+            found.push(ArcRow {
+                arc,
+                rank: Some(ranks[place as usize]),
+                largest: largest_used(net, rows, arc),
+            })?;
         }
     }
     Ok(found)

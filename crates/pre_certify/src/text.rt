@@ -4,10 +4,10 @@ ghost use Rattle.pre_base.specs.Told.{WhereTold};
 ghost use Rattle.pre_base.specs.Sinks.{TakesAll};
 ghost use Rattle.pre_text.specs.Spelled.{spelled};
 ghost use Rattle.pre_topo.specs.Named.{arc_name};
-ghost use Rattle.pre_certify.specs.Text.{stream_name, rank_line, port_line, hop_line, bound_line, rank_lines, port_lines, hop_lines, bound_lines, certificate_text};
+ghost use Rattle.pre_certify.specs.Text.{stream_name, version_of, first_line, arc_line, port_line, hop_line, bound_line, arc_lines, port_lines, hop_lines, bound_lines, certificate_text};
 
 use pre_base::{ArcId, Failed, Sink, StreamId};
-use pre_bound::{Certificate, HopRow, PortRow};
+use pre_bound::{ArcRow, Certificate, HopRow, PortRow};
 use pre_streams::{Row, Streams};
 use pre_text::{Word, put_line};
 use pre_topo::Network;
@@ -30,20 +30,24 @@ fn stream_of(rows: &[Row], stream: StreamId) -> Word<'_, 'static>
     }
 }
 
-fn put_rank<S: Sink>(net: &Network, row: &(ArcId, u64), sink: &mut S) -> Result<(), Failed>
-    ensures octets { WhereTold (S.tells sink.old) (S.tells sink.new) (TakesAll result (rank_line net.now row.now)) }
+fn put_arc<S: Sink>(net: &Network, row: &ArcRow, sink: &mut S) -> Result<(), Failed>
+    ensures octets { WhereTold (S.tells sink.old) (S.tells sink.new) (TakesAll result (arc_line net.now row.now)) }
     ensures cause { HasCause (S.faults sink.old) (S.faults sink.new) result }
 {
-    let words = [arc_of(net, row.0), Word::Number(row.1)];
-    put_line(sink, &Word::Octets(b"arc"), &words)
+    let (first, arc) = (Word::Octets(b"arc"), arc_of(net, row.arc));
+    let largest = Word::Number(row.largest);
+    match row.rank {
+        Some(rank) => put_line(sink, &first, &[arc, Word::Number(rank), largest]),
+        None => put_line(sink, &first, &[arc, largest]),
+    }
 }
 
-fn put_ranks<S: Sink>(net: &Network, rows: &[(ArcId, u64)], sink: &mut S) -> Result<(), Failed>
-    ensures octets { WhereTold (S.tells sink.old) (S.tells sink.new) (TakesAll result (rank_lines net.now rows.now)) }
+fn put_arcs<S: Sink>(net: &Network, rows: &[ArcRow], sink: &mut S) -> Result<(), Failed>
+    ensures octets { WhereTold (S.tells sink.old) (S.tells sink.new) (TakesAll result (arc_lines net.now rows.now)) }
     ensures cause { HasCause (S.faults sink.old) (S.faults sink.new) result }
 {
     for row in rows {
-        put_rank(net, row, sink)?;
+        put_arc(net, row, sink)?;
     }
     Ok(())
 }
@@ -118,8 +122,34 @@ fn put_bounds<S: Sink>(
     Ok(())
 }
 
-/// Writes a certificate: `certificate 1`, a line for each rank, port, hop and bound in the order of its rows, and `end`.
-/// Arcs and streams have their names in the network and among the rows.
+/// The text's version: with ranks it is 2, and without them 3.
+fn version_of(arcs: &[ArcRow]) -> u64
+    ensures { result ≡ version_of arcs.now }
+{
+    match arcs {
+        [] => 2,
+        [row, ..] => {
+            if row.rank.is_some() {
+                2
+            } else {
+                3
+            }
+        }
+    }
+}
+
+/// Writes the first line.
+fn put_first<S: Sink>(arcs: &[ArcRow], sink: &mut S) -> Result<(), Failed>
+    ensures octets { WhereTold (S.tells sink.old) (S.tells sink.new) (TakesAll result (first_line arcs.now)) }
+    ensures cause { HasCause (S.faults sink.old) (S.faults sink.new) result }
+{
+    let version = Word::Number(version_of(arcs));
+    put_line(sink, &Word::Octets(b"certificate"), &[version])
+}
+
+/// Writes a certificate: its version, a line for each arc, port, hop and bound in the order of its rows, and `end`. The first
+/// line is `certificate 3` where the first arc has no rank, and else `certificate 2`; an arc's line has its rank where it has
+/// one. Arcs and streams have their names in the network and among the rows.
 ///
 /// # Errors
 ///
@@ -134,8 +164,8 @@ pub fn put_certificate<S: Sink>(
     ensures cause { HasCause (S.faults sink.old) (S.faults sink.new) result }
 {
     let rows = streams.rows.as_slice();
-    put_line(sink, &Word::Octets(b"certificate"), &[Word::Number(1)])?;
-    put_ranks(net, c.ranks.as_slice(), sink)?;
+    put_first(c.arcs.as_slice(), sink)?;
+    put_arcs(net, c.arcs.as_slice(), sink)?;
     put_ports(net, c.ports.as_slice(), sink)?;
     put_hops(rows, c.hops.as_slice(), sink)?;
     put_bounds(rows, c.bounds.as_slice(), sink)?;

@@ -18,7 +18,6 @@ use Rattle.pre_streams.specs.declared.faults.StreamFault.{StreamFault}
 use Rattle.pre_streams.specs.declared.faults.StreamFault.TheVariants as stream
 use Rattle.pre_streams.specs.StreamsOf as rows
 use Rattle.pre_bound.specs.declared.certificate.Certificate.{Certificate}
-use Rattle.pre_bound.specs.Least.{Least}
 use Rattle.pre_certify.specs.declared.unfit.Unfit.{Unfit}
 use Rattle.pre_certify.specs.declared.unfit.Unfit.TheVariants as unfit
 use Rattle.pre_certify.specs.Causes.{Cause}
@@ -31,7 +30,7 @@ use Rattle.pre_cli.specs.declared.statuses.Status.TheVariants as status
 use Rattle.pre_cli.specs.Scripts.{max_file}
 use Rattle.pre_cli.specs.Answers.{Outside}
 use Rattle.pre_cli.specs.Listed.{IsFlushed}
-use Rattle.pre_cli.specs.Certifying.{text_named, IsTextIn, OfFiles, IsGone, IsFileIn, IsNoFile, IsLongFile, topo_status, stream_status, IsLong, IsNetIn, NetRefused, AreStreamsIn, StreamsRefused, InPlace, pair_network, pair_streams, unfit_status, UnfitCause, CertifiedCause, TakesFlushed, CertifiedLeaves, AreBothIn, RefusedIn, GoneIn, CertifyingCause, CertifyingLeaves}
+use Rattle.pre_cli.specs.Certifying.{IsLeastRanked, text_named, IsTextIn, OfFiles, IsGone, IsFileIn, IsNoFile, IsLongFile, topo_status, stream_status, IsLong, IsNetIn, NetRefused, AreStreamsIn, StreamsRefused, InPlace, pair_network, pair_streams, unfit_status, UnfitCause, CertifiedCause, TakesFlushed, CertifiedLeaves, AreBothIn, RefusedIn, GoneIn, CertifyingCause, CertifyingLeaves}
 
 -- ---- told values
 
@@ -171,7 +170,7 @@ unfit_leaves (unfit.Ring arc prio need) net streams a = refl
 unfit_leaves unfit.Memory net streams a = refl
 
 -- the certificate was written whole, and then passed on or not
-pub flushed_leaves : (s : Status) (net : Network) (streams : Streams) (k : Certificate) (a b c : Option Taken) → Least net streams k → WhereTold a b (TakesWhole (certificate_text net streams.rows k)) → IsFlushed s b c → CertifiedLeaves s net streams a c
+pub flushed_leaves : (s : Status) (net : Network) (streams : Streams) (k : Certificate) (a b c : Option Taken) → IsLeastRanked net streams k → WhereTold a b (TakesWhole (certificate_text net streams.rows k)) → IsFlushed s b c → CertifiedLeaves s net streams a c
 flushed_leaves status.Done net streams k a b c least took ends =
     (k, least, WhereTold-join a b c _ _ (TakesFlushed (certificate_text net streams.rows k)) (λ x y z p q. (q.0 ∙ p, q.1)) took ends)
 flushed_leaves status.WriteFault net streams k a b c least took ends =
@@ -183,7 +182,7 @@ flushed_leaves (status.Unfit u) net streams k a b c least took ends = absurd end
 flushed_leaves status.Memory net streams k a b c least took ends = absurd ends
 flushed_leaves status.Words net streams k a b c least took ends = absurd ends
 
-pub flushed_cause : (s : Status) (net : Network) (streams : Streams) (k : Certificate) (before between now : ℕ) (a b : Option Taken) → Least net streams k → NoneRefuses net streams.rows → before ≤ between → IsFlushed s a b → (s ≡ status.WriteFault → Rose between now)
+pub flushed_cause : (s : Status) (net : Network) (streams : Streams) (k : Certificate) (before between now : ℕ) (a b : Option Taken) → IsLeastRanked net streams k → NoneRefuses net streams.rows → before ≤ between → IsFlushed s a b → (s ≡ status.WriteFault → Rose between now)
     → CertifiedCause s net streams before now
 flushed_cause status.Done net streams k before between now a b least none later ends rose = record { certificate = k; least = least; none = none }
 flushed_cause status.WriteFault net streams k before between now a b least none later ends rose = (omega (arith, later, rose refl), record { certificate = k; least = least; none = none })

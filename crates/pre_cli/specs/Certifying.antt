@@ -18,6 +18,7 @@ use Rattle.pre_streams.specs.declared.faults.StreamFault.TheVariants as stream
 use Rattle.pre_streams.specs.StreamsOf.{streams_of}
 use Rattle.pre_streams.specs.Made.{row_parts}
 use Rattle.pre_bound.specs.declared.certificate.Certificate.{Certificate}
+use Rattle.pre_bound.specs.Listed.{HasRanks}
 use Rattle.pre_bound.specs.Least.{Least}
 use Rattle.pre_certify.specs.declared.unfit.Unfit.{Unfit}
 use Rattle.pre_certify.specs.declared.unfit.Unfit.TheVariants as unfit
@@ -129,10 +130,15 @@ InPlace (status.Unfit cause) gone refused before now old new = ⊥
 
 -- ---- the certificate of a network and streams
 
--- there is a least certificate, and no refusal has a cause
+-- the certificate has ranks, and is the least one with them
+pub record IsLeastRanked (net : Network) (streams : Streams) (c : Certificate) : Type 0 where
+  pub least : Least net streams c
+  pub ranked : HasRanks c
+
+-- there is such a certificate, and no refusal has a cause
 pub record HasLeast (net : Network) (streams : Streams) : Type 0 where
   pub certificate : Certificate
-  pub least : Least net streams certificate
+  pub least : IsLeastRanked net streams certificate
   pub none : NoneRefuses net streams.rows
 
 -- want of memory is no cause of its own
@@ -143,7 +149,7 @@ unfit_status (unfit.Large arc prio) = status.Unfit (unfit.Large arc prio)
 unfit_status (unfit.Ring arc prio need) = status.Unfit (unfit.Ring arc prio need)
 unfit_status unfit.Memory = status.Memory
 
--- the refusal has a cause, and no other has, and there is no good certificate; want of memory is no cause of its own
+-- the refusal has a cause, and no other has, and there is no good certificate with ranks; want of memory is no cause of its own
 pub record UnfitCause (cause : Unfit) (net : Network) (streams : Streams) : Type 0 where
   pub refusal : cause ≢ unfit.Memory
   pub here : Cause net streams.rows cause
@@ -165,8 +171,8 @@ TakesFlushed text old new = (new.octets ≡ old.octets ++ text) × (new.flushed 
 
 -- the text of the least certificate, flushed, or a front of it where writing failed, and else nothing
 abbrev pub CertifiedLeaves : Status → Network → Streams → Option Taken → Option Taken → Type 0
-CertifiedLeaves status.Done net streams old new = (c : Certificate) × Least net streams c × WhereTold old new (TakesFlushed (certificate_text net streams.rows c))
-CertifiedLeaves status.WriteFault net streams old new = (c : Certificate) × Least net streams c × WhereTold old new (TakesFront (certificate_text net streams.rows c))
+CertifiedLeaves status.Done net streams old new = (c : Certificate) × IsLeastRanked net streams c × WhereTold old new (TakesFlushed (certificate_text net streams.rows c))
+CertifiedLeaves status.WriteFault net streams old new = (c : Certificate) × IsLeastRanked net streams c × WhereTold old new (TakesFront (certificate_text net streams.rows c))
 CertifiedLeaves (status.Unfit cause) net streams old new = new ≡ old
 CertifiedLeaves status.Memory net streams old new = new ≡ old
 CertifiedLeaves status.Words net streams old new = new ≡ old

@@ -2,10 +2,9 @@ ghost use Rattle.std.specs.Prelude.{◌≡◌, ℕ, ◌≤◌, length, map, IfOk
 ghost use Rattle.pre_base.specs.Faults.{Rose};
 ghost use Rattle.pre_base.specs.Told.{WhereTold};
 ghost use Rattle.pre_streams.specs.Fits.{Fits};
-ghost use Rattle.pre_bound.specs.Least.{Least};
 ghost use Rattle.pre_certify.specs.Causes as causes;
 ghost use Rattle.pre_certify.specs.Refusals.{NoneRefuses};
-ghost use Rattle.pre_cli.specs.Certifying.{pair_network, pair_streams, IsTextIn, OfFiles, IsGone, IsLong, InPlace, IsNetIn, NetRefused, AreStreamsIn, StreamsRefused, CertifiedCause, CertifiedLeaves, CertifyingCause, CertifyingLeaves};
+ghost use Rattle.pre_cli.specs.Certifying.{IsLeastRanked, pair_network, pair_streams, IsTextIn, OfFiles, IsGone, IsLong, InPlace, IsNetIn, NetRefused, AreStreamsIn, StreamsRefused, CertifiedCause, CertifiedLeaves, CertifyingCause, CertifyingLeaves};
 ghost use Rattle.pre_cli.specs.Certifying as certifying;
 
 use crate::listings::flushed;
@@ -194,7 +193,7 @@ fn put_least<S: Sink>(
     streams: &Streams,
     sink: &mut S,
 ) -> Status
-    requires least { Least net.now streams.now certificate.now }
+    requires least { IsLeastRanked net.now streams.now certificate.now }
     requires none { NoneRefuses net.now streams.now.rows }
     ensures cause { CertifiedCause result net.now streams.now (S.faults sink.old) (S.faults sink.new) }
     ensures leaves { CertifiedLeaves result net.now streams.now (S.tells sink.old) (S.tells sink.new) }

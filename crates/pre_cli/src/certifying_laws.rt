@@ -6,7 +6,7 @@ ghost use Rattle.pre_cli.specs.DueCertificates.{MissingNetwork, RefusedNetwork, 
 
 /// Where a network and streams are to be certified, a network's text that isn't there, and one that is too long or has a
 /// fault, is answered as such, but where memory isn't found or the shelf fails; and where the network is read, so are the
-/// streams. Where both are read, all is done where there is a good certificate, but where the sink fails; and what there
+/// streams. Where both are read, all is done where there is a good certificate with ranks, but where the sink fails; and what there
 /// is a cause to refuse is refused so.
 pub fn due_certificates()
     ensures words { (net_word streams_word : List ℕ) (o : Outside) → ¬ CertifyingCause status.Words net_word streams_word o }

@@ -12,7 +12,7 @@ use Rattle.pre_mpacket.specs.Arrivals.{Given}
 use Rattle.pre_lldp.specs.LldpLayout.{advert_of}
 use Rattle.pre_lldp.specs.Ages.{Heard, last_heard, CountsEnabled}
 use Rattle.pre_lldp.specs.LinkState as link
-use Rattle.pre_history.specs.Scenario.{Scenario, arc, last}
+use Rattle.pre_history.specs.Scenario.{Scenario, arc}
 use Rattle.pre_history.specs.History.{History, Arrive}
 use Rattle.pre_history.specs.Selected.{is_lldp_result}
 use Rattle.pre_history.specs.Queries.{Arrivals, SettingOf}
@@ -21,6 +21,7 @@ use Rattle.pre_history.specs.LinkState.{Says, LldpReceived, Good, AreHeard, Veri
 use Rattle.pre_history.proofs.Arrived.{OneGiven}
 use Rattle.pre_history.proofs.Chosen.{from_filter, last_there}
 use Rattle.pre_history.proofs.Unread.{verified_like}
+use Rattle.pre_base.specs.Last.{last}
 
 by_then : (m n : ℕ) → nat_le m n ≡ true → m ≤ n
 by_then m n is = grind (arith, nat_tests)

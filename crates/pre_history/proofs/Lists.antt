@@ -1,5 +1,5 @@
 -- Elements of lists by their places, and of selections.
-use Rattle.std.proofs.Common.{ℕ, zero, suc, ◌≡◌, ◌⊎◌, ◌<◌, Bool, true, false, List, [], ◌∷◌, ◌++◌, length, refl, ap, inl, inr, arith, subst, Option, Some, None, filter, filter_map}
+use Rattle.std.proofs.Common.{ℕ, zero, suc, ◌≡◌, ◌⊎◌, ◌<◌, Bool, true, false, List, [], ◌∷◌, ◌++◌, length, refl, ap, inl, inr, arith, subst, Option, Some, None, filter, filter_map, ◌∙◌}
 use Rattle.std.specs.Prelude.{if◌then◌else◌, slice_get, slice_index_or, Any}
 use Rattle.std.specs.List.{AllByRecursion as Every, cons_option}
 
@@ -90,3 +90,13 @@ every_filter P test (x ∷ xs) (here, more) = go (test x) (every_filter P test x
     go : (b : Bool) → Every P (filter test xs) → Every P (if b then x ∷ filter test xs else filter test xs)
     go true rest = (here, rest)
     go false rest = rest
+
+-- what is selected of an element stands somewhere
+pub in_selected : {X Y : Type 0} (sel : X → Option Y) (xs : List X) (i : ℕ) (x : X) (y : Y) → slice_get xs i ≡ Some x → sel x ≡ Some y → (k : ℕ) × (slice_get (filter_map sel xs) k ≡ Some y)
+in_selected sel [] i x y at is = absurd (cc at)
+in_selected sel (z ∷ xs) zero x y at is = let same : z ≡ x = cc at in let here : sel z ≡ Some y = ap sel same ∙ is in (0, rw here refl)
+in_selected {X} {Y} sel (z ∷ xs) (suc i) x y at is = go (sel z) (in_selected sel xs i x y at is)
+  where
+    go : (o : Option Y) → (k : ℕ) × (slice_get (filter_map sel xs) k ≡ Some y) → (k : ℕ) × (slice_get (cons_option o (filter_map sel xs)) k ≡ Some y)
+    go None found = found
+    go (Some v) found = (suc found.0, found.1)

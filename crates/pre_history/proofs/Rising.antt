@@ -54,3 +54,12 @@ module _ (w : Scenario) (n : ℕ) (h : History) (legal : LegalUpTo w n h) (a : �
         | inl same ↦ let is : b.0 ≡ c.0 = one_at (Begins h a) j b.0 c.0 (ap (slice_get (Begins h a)) (sym same) ∙ b.1) c.1 in let tick_is = ap (λ (x : Begin). x.tick) is in omega (arith, tick_is)
         | inr more ↦ let less = rises (suc i) j b.0 c.0 more b.1 c.1 in omega (arith, less)
       ]
+
+  -- so no place is above its tick
+  pub place_le_tick : (i : ℕ) (b : Begin) → slice_get (Begins h a) i ≡ Some b → i ≤ b.tick
+  place_le_tick zero b at = omega arith
+  place_le_tick (suc i) b at =
+      let c = there (Begins h a) i (let lt = within (Begins h a) (suc i) b at in omega (arith, lt)) in
+      let less = rises i (suc i) c.0 b (omega arith) c.1 at in
+      let before = place_le_tick i c.0 c.1 in
+      omega (arith, less, before)

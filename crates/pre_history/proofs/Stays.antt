@@ -11,7 +11,7 @@ use Rattle.pre_mpacket.specs.declared.packets.Kind.TheVariants as kind
 use Rattle.pre_mpacket.specs.Pieces.{Begun, CutRule}
 use Rattle.pre_history.specs.declared.events.What.{What}
 use Rattle.pre_history.specs.declared.events.What.TheVariants as what
-use Rattle.pre_history.specs.Scenario.{Scenario, last, arc}
+use Rattle.pre_history.specs.Scenario.{Scenario, arc}
 use Rattle.pre_history.specs.History.{PlainEvent, History, Begin}
 use Rattle.pre_history.specs.Selected.{active_on}
 use Rattle.pre_history.specs.Queries.{Waiting}
@@ -23,6 +23,7 @@ use Rattle.pre_history.specs.Rules.{CheckOf, last_four}
 use Rattle.pre_history.proofs.IsLater.{IsLater, AllLater}
 use Rattle.pre_history.proofs.Lists.{every_weaker, none_selected, no_append}
 use Rattle.pre_history.proofs.Later.{waiting_later}
+use Rattle.pre_base.specs.Last.{last}
 
 not_by : (m n : ℕ) → n < m → nat_le m n ≡ false
 not_by m n lt = grind (arith, nat_tests)

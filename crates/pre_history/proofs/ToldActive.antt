@@ -7,7 +7,7 @@ use Rattle.std.proofs.lemmas.Bool.{cases_lt}
 use Rattle.std.proofs.lemmas.Bool.Decides.{nat_tests}
 use Rattle.std.proofs.lemmas.List.Elements.{filter_map-append}
 use Rattle.pre_topo.specs.declared.arcs.Mode.TheVariants as mode
-use Rattle.pre_history.specs.Scenario.{Scenario, arc, last}
+use Rattle.pre_history.specs.Scenario.{Scenario, arc}
 use Rattle.pre_history.specs.Moments.{Phase, moments, Moment, moment_at}
 use Rattle.pre_history.specs.History.{PlainEvent, History}
 use Rattle.pre_history.specs.Selected.{active_on}
@@ -24,6 +24,7 @@ use Rattle.pre_history.proofs.Turns.{tick_le, tick_lt}
 use Rattle.pre_history.proofs.Steady.{less_or_equal, number_lt}
 use Rattle.pre_history.proofs.Stays.{told_same}
 use Rattle.pre_history.proofs.Unread.{LaterGives, IsUnread, active_stays, reverse_within}
+use Rattle.pre_base.specs.Last.{last}
 
 not_by : (m n : ℕ) → n < m → nat_le m n ≡ false
 not_by m n lt = grind (arith, nat_tests)

@@ -18,7 +18,7 @@ use Rattle.pre_history.specs.Octets.{Air}
 use Rattle.pre_mpacket.specs.Arrivals.{is_continue}
 
 -- moments of a tick up to `until` are those before the last moment
-tick_up_to : (size t u k : ℕ) → t * size + k < (u + 1) * size → t ≤ u
+pub tick_up_to : (size t u k : ℕ) → t * size + k < (u + 1) * size → t ≤ u
 tick_up_to size t u k lt = elim (cases_lt u t) [
   | inr le ↦ le
   | inl more ↦ let reach : (u + 1) * size ≤ t * size = mul-le-mul_right size (let le : u + 1 ≤ t = omega (arith, more) in le) in absurd (omega (arith, reach, lt))

@@ -13,7 +13,7 @@ use Rattle.pre_topo.specs.Arcs.{reverse_of}
 use Rattle.pre_mpacket.specs.Spelling.{head_of}
 use Rattle.pre_mpacket.specs.Arrivals.{Given, Gives}
 use Rattle.pre_lldp.specs.LinkState as link
-use Rattle.pre_history.specs.Scenario.{Scenario, arc, last}
+use Rattle.pre_history.specs.Scenario.{Scenario, arc}
 use Rattle.pre_history.specs.History.{PlainEvent, History, Begin, Ended, Arrive}
 use Rattle.pre_history.specs.Selected.{begin_on, ended_on, arrive_on, active_on, is_verify, is_lldp_result, is_respond_result}
 use Rattle.pre_history.specs.Queries.{Begins, Ends, Arrivals, Packet, Packets, PacketsBefore, packet, end_of}
@@ -30,6 +30,7 @@ use Rattle.pre_history.proofs.LaterEnds.{packet_back, split_at}
 use Rattle.pre_history.proofs.Undamaged.{air_at}
 use Rattle.pre_history.proofs.Steady.{costs}
 use Rattle.pre_history.proofs.InOrder.{steady}
+use Rattle.pre_base.specs.Last.{last}
 
 -- no query of link state at the tick reads the event
 abbrev pub IsUnread : ℕ → PlainEvent → Type 0

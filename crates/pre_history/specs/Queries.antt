@@ -5,9 +5,10 @@ use Rattle.pre_base.specs.declared.limits.TheConstants.{GAP}
 use Rattle.pre_script.specs.declared.scripts.Setting.{Setting}
 use Rattle.pre_script.specs.declared.scripts.Setting.TheVariants as setting
 use Rattle.pre_mpacket.specs.Arrivals.{is_start, is_fragment}
-use Rattle.pre_history.specs.Scenario.{Scenario, last, arc, FrameOf}
+use Rattle.pre_history.specs.Scenario.{Scenario, arc, FrameOf}
 use Rattle.pre_history.specs.History.{Begin, Ended, Arrive, Delivery, History}
 use Rattle.pre_history.specs.Selected.{RingEntry, begin_on, ended_on, arrive_on, entry_on, delivery_of, what_is, frame_count, frame_number, from_last}
+use Rattle.pre_base.specs.Last.{last}
 
 -- an mPacket: its `begin` event, with its `ended` event where it has one
 pub record Packet : Type 0 where

@@ -12,17 +12,12 @@ use Rattle.pre_streams.specs.declared.rows.Streams.{Streams}
 use Rattle.pre_script.specs.declared.scripts.Script.{Script}
 use Rattle.pre_script.specs.declared.scripts.SendLine.{SendLine}
 use Rattle.pre_frame.specs.Layout.{frame_of}
+use Rattle.pre_base.specs.Last.{last}
 
 pub record Scenario : Type 0 where
   pub net : Network
   pub streams : Streams
   pub script : Script
-
--- the last element
-abbrev pub last : {X : Type 0} → List X → Option X
-last [] = None
-last (x ∷ []) = Some x
-last (x ∷ y ∷ xs) = last (y ∷ xs)
 
 -- what a number past the end of a list names: it is never asked for
 abbrev pub no_arc : Arc

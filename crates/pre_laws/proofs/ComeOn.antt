@@ -13,7 +13,7 @@ use Rattle.pre_history.specs.Queries.{Arrivals, Ends, Waiting}
 use Rattle.pre_history.specs.Comings.{Coming, entry_event, entry_for, next_arc, first_arc, sends_from, relayed, below, frame_at}
 use Rattle.pre_history.specs.Placed.{number, IsBefore}
 use Rattle.pre_history.specs.Legal.{LegalUpTo, LegalBefore, Alias}
-use Rattle.pre_history.proofs.Lists.{there, within, at_front, at_last, every_at, every_placed, every_selected}
+use Rattle.pre_history.proofs.Lists.{there, within, at_front, at_last, every_at, every_placed, every_selected, in_selected}
 use Rattle.pre_history.proofs.Relays.{relays}
 use Rattle.pre_history.proofs.Placing.{placed}
 use Rattle.pre_history.proofs.InOrder.{steady}
@@ -40,15 +40,6 @@ in_flat : {X Y : Type 0} (g : X → List Y) (xs : List X) (i j : ℕ) (x : X) (y
 in_flat g [] i j x y at at' = absurd (cc at)
 in_flat {X} {Y} g (z ∷ xs) zero j x y at at' = let same : z ≡ x = cc at in (j, at_front (g z) (flat_map g xs) j y (subst (λ (v : X). slice_get (g v) j ≡ Some y) (sym same) at'))
 in_flat g (z ∷ xs) (suc i) j x y at at' = let o = in_flat g xs i j x y at at' in at_back (g z) (flat_map g xs) o.0 y o.1
-
-in_selected : {X Y : Type 0} (sel : X → Option Y) (xs : List X) (i : ℕ) (x : X) (y : Y) → slice_get xs i ≡ Some x → sel x ≡ Some y → (k : ℕ) × (slice_get (filter_map sel xs) k ≡ Some y)
-in_selected sel [] i x y at is = absurd (cc at)
-in_selected sel (z ∷ xs) zero x y at is = let same : z ≡ x = cc at in let here : sel z ≡ Some y = ap sel same ∙ is in (0, rw here refl)
-in_selected {X} {Y} sel (z ∷ xs) (suc i) x y at is = go (sel z) (in_selected sel xs i x y at is)
-  where
-    go : (o : Option Y) → (k : ℕ) × (slice_get (filter_map sel xs) k ≡ Some y) → (k : ℕ) × (slice_get (cons_option o (filter_map sel xs)) k ≡ Some y)
-    go None found = found
-    go (Some v) found = (suc found.0, found.1)
 
 in_below : (n a : ℕ) → a < n → (k : ℕ) × (slice_get (below n) k ≡ Some a)
 in_below zero a lt = absurd (omega (arith, lt))

@@ -44,10 +44,10 @@ read_one (y ∷ xs) zero x d at = cc at
 read_one (y ∷ xs) (suc i) x d at = read_one xs i x d at
 
 module _ (w : Scenario) (fits : streams.Fits w.net w.streams) (says : script.Fits w.net w.streams w.script) where
-  sent : (f : ℕ) → f < length w.script.sends → script.IsSend w.net w.streams (send w f)
+  pub sent : (f : ℕ) → f < length w.script.sends → script.IsSend w.net w.streams (send w f)
   sent f lt = says.sends f no_send lt
 
-  row_is : (f : ℕ) → f < length w.script.sends → IsRow w.net (row w f)
+  pub row_is : (f : ℕ) → f < length w.script.sends → IsRow w.net (row w f)
   row_is f lt = let s = sent f lt in fits.each (send w f).send.stream.0 no_row (within w.streams.rows (send w f).send.stream.0 s.row s.known)
 
   hops_long : (f : ℕ) → length (hops w f) ≡ length (row w f).arcs

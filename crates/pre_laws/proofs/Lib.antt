@@ -13,3 +13,6 @@ pub mod RingsOnce
 pub mod Reassembled
 pub mod ComeOn
 pub mod Interruptions
+pub mod Writable
+pub mod SparedFlows
+pub mod NoAlias

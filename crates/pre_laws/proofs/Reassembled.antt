@@ -1,5 +1,5 @@
 -- A frame that went in fragments gives itself where its last one arrives, if none of them is lost or damaged, nor what began between them.
-use Rattle.std.proofs.Common.{ℕ, zero, suc, ◌≡◌, ◌==◌, ◌+◌, ◌-◌, ◌%◌, ◌<◌, ◌≤◌, Bool, true, false, List, [], ◌∷◌, ◌++◌, length, take, drop, refl, sym, ◌∙◌, ap, inl, inr, arith, subst, length-append, Option, Some, map}
+use Rattle.std.proofs.Common.{ℕ, zero, suc, ◌≡◌, ◌==◌, ◌+◌, ◌-◌, ◌%◌, ◌<◌, ◌≤◌, Bool, true, false, List, [], ◌∷◌, ◌++◌, length, take, drop, refl, sym, ◌∙◌, ap, inl, inr, arith, subst, length-append, Option, Some, map, None}
 use Rattle.std.specs.Prelude.{if◌then◌else◌, slice_get, unwrap_or, option_map, option_and_then, replicate}
 use Rattle.std.proofs.lemmas.List.{append-nil, map-append, length-take-le, length-drop}
 use Rattle.pre_base.specs.declared.numbers.FrameNo.{FrameNo}
@@ -21,7 +21,7 @@ use Rattle.pre_history.specs.Scenario.{Scenario, arc, FrameOf}
 use Rattle.pre_history.specs.History.{History, Begin, Ended}
 use Rattle.pre_history.specs.Selected.{frame_number, frame_count}
 use Rattle.pre_history.specs.Queries.{Begins, Ends, packet, end_of, data_to, fragment_data}
-use Rattle.pre_history.specs.Octets.{whole_of, WholeOf, AdvertAt, SentOctets, Air}
+use Rattle.pre_history.specs.Octets.{whole_of, WholeOf, AdvertAt, SentOctets, Air, is_lost, Damaged, Sent}
 use Rattle.pre_history.specs.Starts.{Item, Choice, There, SizeOf, ExpressWaits, begun}
 use Rattle.pre_history.specs.Rules.{last_four}
 use Rattle.pre_history.specs.Legal.{LegalUpTo}
@@ -29,7 +29,7 @@ use Rattle.pre_history.proofs.Lists.{there, within, one_at}
 use Rattle.pre_history.proofs.Undamaged.{user_of, air_at}
 use Rattle.pre_history.proofs.InOrder.{steady}
 use Rattle.pre_laws.specs.Routed.{IsRouted}
-use Rattle.pre_laws.specs.Parts.{RunTo, plain_of, WentInParts, IsKept}
+use Rattle.pre_laws.specs.Parts.{RunTo, plain_of, WentInParts, IsKept, AreUndamaged}
 use Rattle.pre_history.proofs.Known.{one_spelled}
 use Rattle.pre_laws.proofs.Begun.{choice_of, by_item}
 use Rattle.pre_laws.proofs.Spared.{as_sent}
@@ -103,7 +103,7 @@ module _ (w : Scenario) (routed : IsRouted w) (n : ℕ) (h : History) (legal : L
 
   -- ---- sizes
 
-  from_start : (m : ℕ) (d : Begin) → slice_get (Begins h a) m ≡ Some d → is_fragment d.kind ≡ false → d.from ≡ 0
+  pub from_start : (m : ℕ) (d : Begin) → slice_get (Begins h a) m ≡ Some d → is_fragment d.kind ≡ false → d.from ≡ 0
   from_start m d at off = let it = by_item w n h legal a a_lt m d at in go it.0 it.1
     where
       go : (it : Item) → There w h a d.tick it (choice_of d) → d.from ≡ 0
@@ -114,7 +114,7 @@ module _ (w : Scenario) (routed : IsRouted w) (n : ℕ) (h : History) (legal : L
       go Item.lldp (on, wanted, by) = ap (λ (c : Choice). c.from) by
       go Item.rest (left, interrupted, by) = absurd (cc (sym off ∙ ap (λ (c : Choice). is_fragment c.kind) by))
 
-  whole_size : (k : Kind) (d : Begin) (size : ℕ) → is_fragment k ≡ false → SizeOf w h k d size → size ≡ length (WholeOf w h d)
+  pub whole_size : (k : Kind) (d : Begin) (size : ℕ) → is_fragment k ≡ false → SizeOf w h k d size → size ≡ length (WholeOf w h d)
   whole_size kind.Express d size off is = is
   whole_size kind.Verify d size off is = is
   whole_size kind.Respond d size off is = is
@@ -122,7 +122,7 @@ module _ (w : Scenario) (routed : IsRouted w) (n : ℕ) (h : History) (legal : L
   whole_size (kind.Continue c i) d size off is = absurd (cc off)
 
   module _ (m : ℕ) (d : Begin) (e : Ended) (at : slice_get (Begins h a) m ≡ Some d) (over : slice_get (Ends h a) m ≡ Some e) where
-    size_fits : (d.from + e.size ≤ length (WholeOf w h d)) × (64 ≤ e.size)
+    pub size_fits : (d.from + e.size ≤ length (WholeOf w h d)) × (64 ≤ e.size)
     size_fits = go (is_fragment d.kind) refl
       where
         sized : SizeOf w h d.kind d e.size
@@ -153,7 +153,7 @@ module _ (w : Scenario) (routed : IsRouted w) (n : ℕ) (h : History) (legal : L
         go false = length-Mcrc (take (d.from + e.size - 4) (WholeOf w h d))
 
     -- what is spelled where it arrives
-    abbrev told : PlainPacket
+    abbrev pub told : PlainPacket
     told = record { kind = d.kind; mdata = take (e.size - 4) (drop d.from (WholeOf w h d)); check = e.check }
 
     pub spelled : IsKept w d → Spelled (Air w h a) m ≡ Some told
@@ -182,20 +182,30 @@ module _ (w : Scenario) (routed : IsRouted w) (n : ℕ) (h : History) (legal : L
   single (o ∷ os) zero p at off = rw (at, off) refl
   single (o ∷ os) (suc m) p at off = single os m p at off
 
-  module _ (A : List (Option (List ℕ))) (s m : ℕ) (p : PlainPacket) (le : s ≤ m) (at : Spelled A m ≡ Some p) where
+  single_lost : (A : List (Option (List ℕ))) (m : ℕ) → slice_get A m ≡ Some None → fragments_of (take 1 (drop m A)) ≡ []
+  single_lost [] m at = absurd (cc at)
+  single_lost (o ∷ os) zero at = let lost : o ≡ None = cc at in rw lost refl
+  single_lost (o ∷ os) (suc m) at = single_lost os m at
+
+  module _ (A : List (Option (List ℕ))) (s m : ℕ) (le : s ≤ m) where
     split_last : fragments_of (take (suc m - s) (drop s A)) ≡ fragments_of (take (m - s) (drop s A)) ++ fragments_of (take 1 (drop m A))
     split_last =
         let count : suc m - s ≡ (m - s) + 1 = omega (arith, le) in
         let here : s + (m - s) ≡ m = omega (arith, le) in
         ap (λ x. fragments_of (take x (drop s A))) count ∙ (fragments_split A s (m - s) 1 ∙ ap (λ x. fragments_of (take (m - s) (drop s A)) ++ fragments_of (take 1 (drop x A))) here)
 
+    more_lost : slice_get A m ≡ Some None → fragments_of (take (suc m - s) (drop s A)) ≡ fragments_of (take (m - s) (drop s A))
+    more_lost lost = split_last ∙ (ap (λ l. fragments_of (take (m - s) (drop s A)) ++ l) (single_lost A m lost) ∙ append-nil (fragments_of (take (m - s) (drop s A))))
+
+  module _ (A : List (Option (List ℕ))) (s m : ℕ) (p : PlainPacket) (le : s ≤ m) (at : Spelled A m ≡ Some p) where
     more_none : is_fragment p.kind ≡ false → fragments_of (take (suc m - s) (drop s A)) ≡ fragments_of (take (m - s) (drop s A))
-    more_none off = split_last ∙ (ap (λ l. fragments_of (take (m - s) (drop s A)) ++ l) (single A m p at off) ∙ append-nil (fragments_of (take (m - s) (drop s A))))
+    more_none off = split_last A s m le ∙ (ap (λ l. fragments_of (take (m - s) (drop s A)) ++ l) (single A m p at off) ∙ append-nil (fragments_of (take (m - s) (drop s A))))
 
     more_one : is_fragment p.kind ≡ true → fragments_of (take (suc m - s) (drop s A)) ≡ fragments_of (take (m - s) (drop s A)) ++ p ∷ []
-    more_one on = split_last ∙ ap (λ l. fragments_of (take (m - s) (drop s A)) ++ l) (first_fragment A m 0 p at on ∙ ap (λ l. p ∷ l) (nothing_taken (drop (suc m) A)))
+    more_one on = split_last A s m le ∙ ap (λ l. fragments_of (take (m - s) (drop s A)) ++ l) (first_fragment A m 0 p at on ∙ ap (λ l. p ∷ l) (nothing_taken (drop (suc m) A)))
 
-  module _ (i : ℕ) (e : Ended) (over : slice_get (Ends h a) i ≡ Some e) (s : ℕ) (kept : (k : ℕ) (c : Begin) → s ≤ k → k ≤ i → slice_get (Begins h a) k ≡ Some c → IsKept w c) where
+  module _ (i : ℕ) (e : Ended) (over : slice_get (Ends h a) i ≡ Some e) (s : ℕ) (f : FrameNo)
+      (own : (k : ℕ) (c : Begin) → slice_get (Begins h a) k ≡ Some c → c.what ≡ what.Frame f → IsKept w c) (whole : AreUndamaged w h a s i) where
     ended_at : (k : ℕ) → k ≤ i → (e : Ended) × (slice_get (Ends h a) k ≡ Some e)
     ended_at k le = there (Ends h a) k (let lt = within (Ends h a) i e over in omega (arith, lt, le))
 
@@ -209,23 +219,29 @@ module _ (w : Scenario) (routed : IsRouted w) (n : ℕ) (h : History) (legal : L
         let x = ended_at m (omega (arith, high)) in
         let d = there (Begins h a) m (let lt = within (Ends h a) m x.0 x.1 in let more = (steady w n h a a_lt legal).ordered.ends_begun in omega (arith, lt, more)) in
         let off = none m d.0 (omega arith) (omega arith) d.1 in
-        let next : So (suc m) = more_none (Air w h a) s m (told m d.0 x.0 d.1 x.1) low (spelled m d.0 x.0 d.1 x.1 (kept m d.0 low (omega (arith, high)) d.1)) off ∙ (so ∙ ap (map (plain_of w h)) (sym (run_other w n h legal a a_lt m d.0 d.1 off))) in
+        let next : So (suc m) = skip d.0 x.0 d.1 x.1 off (is_lost w d.0) refl ∙ (so ∙ ap (map (plain_of w h)) (sym (run_other w n h legal a a_lt m d.0 d.1 off))) in
         let same : suc m + g ≡ m + suc g = omega arith in
         subst So same (pass_to g (suc m) (omega (arith, low)) (omega (arith, high)) (λ j d le lt at. none j d (omega (arith, le)) (omega (arith, lt)) at) next)
+      where
+        skip : (d : Begin) (e : Ended) → slice_get (Begins h a) m ≡ Some d → slice_get (Ends h a) m ≡ Some e → is_fragment d.kind ≡ false → (x : Bool) → is_lost w d ≡ x
+            → fragments_of (take (suc m - s) (drop s (Air w h a))) ≡ fragments_of (take (m - s) (drop s (Air w h a)))
+        skip d e at over off true lost =
+            more_lost (Air w h a) s m low (air_at w h a m d at ∙ ap Some (ap (λ (x : Bool). if x then None else option_map (Damaged w d) (Sent w h (packet h a d))) lost))
+        skip d e at over off false kept = more_none (Air w h a) s m (told m d e at over) low (spelled m d e at over (kept, whole m d low (omega (arith, high)) at)) off
 
     -- a fragment of the frame whose first octet began at place s
-    pub fragments_so : (fuel m : ℕ) (d : Begin) (f : FrameNo) → m < fuel → m ≤ i → slice_get (Begins h a) m ≡ Some d → is_fragment d.kind ≡ true → d.what ≡ what.Frame f
+    pub fragments_so : (fuel m : ℕ) (d : Begin) → m < fuel → m ≤ i → slice_get (Begins h a) m ≡ Some d → is_fragment d.kind ≡ true → d.what ≡ what.Frame f
         → (c : Begin) → slice_get (Begins h a) s ≡ Some c → c.what ≡ what.Frame f → c.from ≡ 0 → So (suc m)
-    fragments_so zero m d f lt high at on carries c at_c carries_c from_c = absurd (omega (arith, lt))
-    fragments_so (suc fuel) m d f lt high at on carries c at_c carries_c from_c =
-        go (fragment_at w routed n h legal a a_lt m d at on).1 (λ k b lt' high' at' on' carries'. fragments_so fuel k b f lt' high' at' on' carries' c at_c carries_c from_c)
+    fragments_so zero m d lt high at on carries c at_c carries_c from_c = absurd (omega (arith, lt))
+    fragments_so (suc fuel) m d lt high at on carries c at_c carries_c from_c =
+        go (fragment_at w routed n h legal a a_lt m d at on).1 (λ k b lt' high' at' on' carries'. fragments_so fuel k b lt' high' at' on' carries' c at_c carries_c from_c)
       where
         x : (e : Ended) × (slice_get (Ends h a) m ≡ Some e)
         x = ended_at m high
 
         with_it : s ≤ m → fragments_of (take (suc m - s) (drop s (Air w h a))) ≡ fragments_of (take (m - s) (drop s (Air w h a))) ++ plain_of w h (packet h a d) ∷ []
         with_it le =
-            more_one (Air w h a) s m (told m d x.0 at x.1) le (spelled m d x.0 at x.1 (kept m d le high at)) on
+            more_one (Air w h a) s m (told m d x.0 at x.1) le (spelled m d x.0 at x.1 (own m d at carries)) on
             ∙ ap (λ p. fragments_of (take (m - s) (drop s (Air w h a))) ++ p ∷ []) (sym (plain_is m d x.0 at x.1 f carries))
 
         go : Joins w routed n h legal a a_lt m d → ((k : ℕ) (b : Begin) → k < fuel → k ≤ i → slice_get (Begins h a) k ≡ Some b → is_fragment b.kind ≡ true → b.what ≡ what.Frame f → So (suc k)) → So (suc m)
@@ -249,9 +265,9 @@ module _ (w : Scenario) (routed : IsRouted w) (n : ℕ) (h : History) (legal : L
             ∙ (ap (λ l. l ++ plain_of w h (packet h a d) ∷ []) by_now ∙ (sym (map-append (plain_of w h) (run_to w n h legal a a_lt m) (packet h a d ∷ [])) ∙ ap (map (plain_of w h)) (sym grown)))
 
     -- the frame is whole where its last fragment arrives
-    pub reassembled : (b : Begin) (f : FrameNo) → slice_get (Begins h a) i ≡ Some b → is_fragment b.kind ≡ true → b.what ≡ what.Frame f → b.from + e.size ≡ length (FrameOf w f.0)
+    pub reassembled : (b : Begin) → slice_get (Begins h a) i ≡ Some b → is_fragment b.kind ≡ true → b.what ≡ what.Frame f → b.from + e.size ≡ length (FrameOf w f.0)
         → (c : Begin) → slice_get (Begins h a) s ≡ Some c → c.what ≡ what.Frame f → c.from ≡ 0 → Gives (Air w h a) i (Given.frame (FrameOf w f.0))
-    reassembled b f at on carries full c at_c carries_c from_c =
+    reassembled b at on carries full c at_c carries_c from_c =
         let r = (fragment_at w routed n h legal a a_lt i b at on).0 in
         let same : r.frame ≡ f = same_frame r.frame f (sym r.carries ∙ carries) in
         let place : s ≡ r.first_place = begins_once w routed n h legal a a_lt s r.first_place c r.first f (at_c, carries_c) (r.first_begun, r.first_carries ∙ ap what.Frame same) from_c r.first_from in
@@ -261,7 +277,7 @@ module _ (w : Scenario) (routed : IsRouted w) (n : ℕ) (h : History) (legal : L
         let x = ended_at s le in
         let is_start_c : is_fragment c.kind ≡ true = ap (λ (z : Begin). is_fragment z.kind) (sym first_is) ∙ ap is_fragment r.first_kind in
         let went : WentInParts w h a i f = subst (WentInParts w h a i) same (run_carries w routed n h legal a a_lt i b r e over (full ∙ ap (λ (g : FrameNo). length (FrameOf w g.0)) (sym same))) in
-        let parts : Fragments (Air w h a) s i ≡ map (plain_of w h) (RunTo h a (suc i)) = fragments_so (suc i) i b f (omega arith) (omega arith) at on carries c at_c carries_c from_c in
+        let parts : Fragments (Air w h a) s i ≡ map (plain_of w h) (RunTo h a (suc i)) = fragments_so (suc i) i b (omega arith) (omega arith) at on carries c at_c carries_c from_c in
         let user = (user_of w f.0).0 in
         let is : FrameOf w f.0 ≡ user ++ Fcs user = (user_of w f.0).1 in
         let carried : Carries (user ++ Fcs user) (arc w a).add_frag (Fragments (Air w h a) s i)
@@ -271,5 +287,5 @@ module _ (w : Scenario) (routed : IsRouted w) (n : ℕ) (h : History) (legal : L
         let check = length-Fcs user in
         let len = ap length is in
         subst (λ l. Gives (Air w h a) i (Given.frame l)) (sym is)
-        ((frame_alone (Air w h a) s i (arc w a).add_frag user le (told s c x.0 at_c x.1, spelled s c x.0 at_c x.1 (kept s c (omega arith) le at_c), is_start_c) (told i b e at over, spelled i b e at over (kept i b le (omega arith) at), on)
+        ((frame_alone (Air w h a) s i (arc w a).add_frag user le (told s c x.0 at_c x.1, spelled s c x.0 at_c x.1 (own s c at_c carries_c), is_start_c) (told i b e at over, spelled i b e at over (own i b at carries), on)
         carried (omega (arith, long, sum, check, len)) (Given.frame (user ++ Fcs user))).1 refl)

@@ -31,6 +31,7 @@ use Rattle.pre_history.proofs.ArrivalsRead.{results_read}
 use Rattle.pre_laws.proofs.Runs.{end_is}
 use Rattle.pre_laws.proofs.RunSteps.{right_at}
 use Rattle.pre_laws.proofs.FirstOctets.{whole_from}
+use Rattle.pre_laws.specs.Parts.{IsKept}
 
 pub none_any : {X : Type 0} (test : X → Bool) (xs : List X) → Every (λ x. test x ≡ false) xs → list_any test xs ≡ false
 none_any test [] none = refl
@@ -46,20 +47,35 @@ as_sent w h b e a kept whole ended =
     ap (λ (x : Bool). if x then None else option_map (Damaged w b) (option_map (SentOctets w h b) (end_of h a b.ord))) kept
     ∙ (ap (λ o. option_map (Damaged w b) (option_map (SentOctets w h b) o)) ended ∙ ap Some same)
 
+-- an mPacket of a spared frame is neither lost nor damaged
+pub own_kept : (w : Scenario) (h : History) (a : ℕ) (f : FrameNo) → Spared w h f.0 → (i : ℕ) (b : Begin) → slice_get (Begins h a) i ≡ Some b → b.what ≡ what.Frame f → IsKept w b
+own_kept w h a f spared i b at carries = (
+  none_any (names_loss b) w.script.losses (every_of_all (λ (l : Loss). IsFalse (names_loss b l)) w.script.losses u.0),
+  filter_nil (names_damage b) w.script.damages (every_of_all (λ (d : Damage). IsFalse (names_damage b d)) w.script.damages u.1),
+)
+  where
+    u : All (λ (l : Loss). IsFalse (names_loss b l)) w.script.losses × All (λ (d : Damage). IsFalse (names_damage b d)) w.script.damages
+    u = every_at (λ (b : Begin). IsTrue (what_is b.what f.0) → All (λ (l : Loss). IsFalse (names_loss b l)) w.script.losses × All (λ (d : Damage). IsFalse (names_damage b d)) w.script.damages) (Begins h a) i b
+        (every_of_all (λ (b : Begin). IsTrue (what_is b.what f.0) → All (λ (l : Loss). IsFalse (names_loss b l)) w.script.losses × All (λ (d : Damage). IsFalse (names_damage b d)) w.script.damages) (Begins h a) (spared a)) at
+        (subst (λ x. IsTrue (what_is x f.0)) (sym carries) (is_same f.0 f.0 refl))
+
+-- what gives a frame of the script arrives as a user frame
+pub frame_received : (w : Scenario) (n : ℕ) (h : History) (legal : LegalUpTo w n h) (a : ℕ) → a < length w.net.arcs → (i f : ℕ) → Gives (Air w h a) i (Given.frame (FrameOf w f))
+    → (x : Arrive) → slice_get (Arrivals h a) i ≡ Some x → x.result ≡ outcome.Frame
+frame_received w n h legal a a_lt i f gives x here = go (results_read w n h a a_lt legal i x here)
+  where
+    go : Result (Air w h a) i x.result → x.result ≡ outcome.Frame
+    go (inl (lost, is)) = absurd (let none = ap (λ o. option_and_then (λ a. option_and_then mpacket_of a) o) lost in cc (sym none ∙ gives.1))
+    go (inr (inl (g, gives', is))) =
+        let same : g ≡ Given.frame (FrameOf w f) = one_given (Air w h a) i g (Given.frame (FrameOf w f)) gives' gives in
+        is ∙ (ap result_of same ∙ ap (λ (b : Bool). if b then outcome.Lldp else outcome.Frame) (user_frame w f))
+    go (inr (inr (came, none, is))) = absurd (none (Given.frame (FrameOf w f)) gives)
+
 module _ (w : Scenario) (routed : IsRouted w) (n : ℕ) (h : History) (legal : LegalUpTo w n h) (a : ℕ) (a_lt : a < length w.net.arcs) (i : ℕ) (b : Begin) (e : Ended) (f : FrameNo)
     (at : slice_get (Begins h a) i ≡ Some b) (over : slice_get (Ends h a) i ≡ Some e) (is_express : b.kind ≡ kind.Express) (carries : b.what ≡ what.Frame f) (spared : Spared w h f.0) where
-  unnamed : (IsTrue (what_is b.what f.0)) → All (λ (l : Loss). IsFalse (names_loss b l)) w.script.losses × All (λ (d : Damage). IsFalse (names_damage b d)) w.script.damages
-  unnamed = every_at (λ (b : Begin). IsTrue (what_is b.what f.0) → All (λ (l : Loss). IsFalse (names_loss b l)) w.script.losses × All (λ (d : Damage). IsFalse (names_damage b d)) w.script.damages) (Begins h a) i b
-      (every_of_all (λ (b : Begin). IsTrue (what_is b.what f.0) → All (λ (l : Loss). IsFalse (names_loss b l)) w.script.losses × All (λ (d : Damage). IsFalse (names_damage b d)) w.script.damages) (Begins h a) (spared a)) at
-
-  named : IsTrue (what_is b.what f.0)
-  named = subst (λ x. IsTrue (what_is x f.0)) (sym carries) (is_same f.0 f.0 refl)
-
   pub gives : Gives (Air w h a) i (Given.frame (FrameOf w f.0))
   gives =
-      let u = unnamed named in
-      let kept : is_lost w b ≡ false = none_any (names_loss b) w.script.losses (every_of_all (λ (l : Loss). IsFalse (names_loss b l)) w.script.losses u.0) in
-      let whole : filter (names_damage b) w.script.damages ≡ [] = filter_nil (names_damage b) w.script.damages (every_of_all (λ (d : Damage). IsFalse (names_damage b d)) w.script.damages u.1) in
+      let (kept, whole) = own_kept w h a f spared i b at carries in
       let s = steady w n h a a_lt legal in
       let size = routed.sizes f.0 ((right_at w routed n h legal a a_lt i b at).on f carries).known in
       let end_at : end_of h a b.ord ≡ Some e = end_is w n h legal a a_lt i b at ∙ over in
@@ -72,13 +88,3 @@ module _ (w : Scenario) (routed : IsRouted w) (n : ℕ) (h : History) (legal : L
       let size_is : length (FrameOf w f.0) ≡ (send w f.0).send.size = length-FrameOf w f.0 (omega (arith, size.0)) in
       let same = ap length is in
       subst (λ xs. Gives (Air w h a) i (Given.frame xs)) (sym is) (express_gives one_spelled (Air w h a) i user octets (omega (arith, size.0, size_is, same, long)) (omega (arith, size.1, size_is, same, long)))
-
-  pub received : (x : Arrive) → slice_get (Arrivals h a) i ≡ Some x → x.result ≡ outcome.Frame
-  received x here = go (results_read w n h a a_lt legal i x here)
-    where
-      go : Result (Air w h a) i x.result → x.result ≡ outcome.Frame
-      go (inl (lost, is)) = absurd (let none = ap (λ o. option_and_then (λ a. option_and_then mpacket_of a) o) lost in cc (sym none ∙ gives.1))
-      go (inr (inl (g, gives', is))) =
-          let same : g ≡ Given.frame (FrameOf w f.0) = one_given (Air w h a) i g (Given.frame (FrameOf w f.0)) gives' gives in
-          is ∙ (ap result_of same ∙ ap (λ (b : Bool). if b then outcome.Lldp else outcome.Frame) (user_frame w f.0))
-      go (inr (inr (came, none, is))) = absurd (none (Given.frame (FrameOf w f.0)) gives)

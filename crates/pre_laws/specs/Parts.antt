@@ -1,10 +1,11 @@
 -- How frames go over an arc: in one express mPacket, or in fragments.
-use Rattle.std.specs.Prelude.{ℕ, suc, ◌+◌, ◌-◌, ◌<◌, ◌≤◌, ◌≡◌, false, true, List, [], length, take, map, filter, unwrap_or, option_map, Some, slice_get}
+use Rattle.std.specs.Prelude.{ℕ, suc, ◌+◌, ◌-◌, ◌<◌, ◌≤◌, ◌≡◌, false, true, List, [], length, take, map, filter, unwrap_or, option_map, Some, slice_get, All}
 use Rattle.std.specs.List.{AllByRecursion as Every}
 use Rattle.pre_base.specs.declared.numbers.FrameNo.{FrameNo}
 use Rattle.pre_mpacket.specs.Arrivals.{is_start, is_fragment}
 use Rattle.pre_mpacket.specs.Spelling.{PlainPacket}
 use Rattle.pre_mpacket.specs.Pieces.{Carries, least_fragment}
+use Rattle.pre_topo.specs.declared.arcs.Mode.TheVariants as mode
 use Rattle.pre_history.specs.declared.events.What.TheVariants as what
 use Rattle.pre_history.specs.Scenario.{Scenario, arc, FrameOf}
 use Rattle.pre_history.specs.History.{Begin, Ended, History}
@@ -44,9 +45,17 @@ pub record GoesOn (w : Scenario) (h : History) (a m : ℕ) (d : Begin) : Type 0 
   pub least : least_fragment (arc w a).add_frag ≤ ended.size - 4
   pub left : d.from + 64 ≤ length (FrameOf w frame.0)
 
--- No line of the script loses or damages the mPacket.
+-- No line of the script damages the mPacket.
+abbrev pub IsUndamaged : Scenario → Begin → Type 0
+IsUndamaged w b = filter (names_damage b) w.script.damages ≡ []
+
+-- No line loses or damages it.
 abbrev pub IsKept : Scenario → Begin → Type 0
-IsKept w b = (is_lost w b ≡ false) × (filter (names_damage b) w.script.damages ≡ [])
+IsKept w b = (is_lost w b ≡ false) × IsUndamaged w b
+
+-- No mPacket that began on the arc from place s up to place i is damaged; each may be lost.
+abbrev pub AreUndamaged : Scenario → History → (a s i : ℕ) → Type 0
+AreUndamaged w h a s i = (k : ℕ) (b : Begin) → s ≤ k → k ≤ i → slice_get (Begins h a) k ≡ Some b → IsUndamaged w b
 
 -- What is left of the frame that is interrupted at the tick: the last fragment that began before it ended, and was cut.
 pub record IsLeft (w : Scenario) (h : History) (a t : ℕ) (left : Rest) : Type 0 where
@@ -63,3 +72,8 @@ pub record IsLeft (w : Scenario) (h : History) (a t : ℕ) (left : Rest) : Type 
   pub from : left.from ≡ last.from + (ended.size - 4)
   pub least : least_fragment (arc w a).add_frag ≤ ended.size - 4
   pub more : left.from + 64 ≤ length (FrameOf w left.frame)
+
+-- No line of the script damages an mPacket, and those that it loses are on arcs that never preempt.
+pub record KeepsFragments (w : Scenario) : Type 0 where
+  pub undamaged : w.script.damages ≡ []
+  pub losses : All (λ l. (arc w l.arc.0).mode ≡ mode.Off) w.script.losses

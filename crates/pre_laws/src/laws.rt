@@ -1,17 +1,18 @@
-ghost use Rattle.std.specs.Prelude.{◌<◌, ◌≤◌, ◌+◌, ◌≡◌, ◌≢◌, ◌⊎◌, ℕ, true, length, slice_get, Some, AllPairs};
+ghost use Rattle.std.specs.Prelude.{◌<◌, ◌≤◌, ◌+◌, ◌≡◌, ◌≢◌, ◌⊎◌, ℕ, true, length, slice_get, Some, AllPairs, All};
 ghost use Rattle.pre_laws.specs.Routed.{ArrivesWhole, ComesFirst, ComesNext, HasCome, IsEntry, IsRouted, IsOnRoute};
 ghost use Rattle.pre_base.specs.declared.numbers.FrameNo.{FrameNo};
 ghost use Rattle.pre_history.specs.History.{Arrive, Begin, Ended, Entry, History};
 ghost use Rattle.pre_history.specs.Queries.{Arrivals, Begins, Ends, Entries, Interrupted, Rest};
-ghost use Rattle.pre_mpacket.specs.Arrivals.{Given, Gives, is_continue, is_fragment, is_start};
-ghost use Rattle.pre_laws.specs.Parts.{GoesOn, IsKept, IsLeft, WentInParts};
+ghost use Rattle.pre_mpacket.specs.Arrivals.{Given, Gives, is_continue, is_start};
+ghost use Rattle.pre_laws.specs.Parts.{GoesOn, IsLeft, WentInParts, AreUndamaged, KeepsFragments};
 ghost use Rattle.pre_history.specs.Deliveries.{ComeOnce, DeliversOnce};
 ghost use Rattle.pre_history.specs.Comings.{Comings, first_arc, frame_at, next_arc};
 ghost use Rattle.pre_history.specs.Placed.{moment_of};
 ghost use Rattle.pre_history.specs.Octets.{Air};
-ghost use Rattle.pre_history.specs.Legal.{Spared, Legal, LegalBefore, LegalUpTo};
+ghost use Rattle.pre_history.specs.Legal.{Spared, Legal, LegalBefore, LegalUpTo, last_moment, Alias};
 ghost use Rattle.pre_history.specs.Scenario.{FrameOf, Scenario, arc, latency, row, send};
 ghost use Rattle.pre_history.specs.Moments.{Phase};
+ghost use Rattle.pre_history.specs.Written.{AreWritten};
 ghost use Rattle.pre_history.specs.declared.events.What.TheVariants as what;
 ghost use Rattle.pre_history.specs.declared.events.Outcome.TheVariants as outcome;
 ghost use Rattle.pre_mpacket.specs.declared.packets.Kind.TheVariants as kind;
@@ -72,28 +73,24 @@ pub fn frames_go_in_parts()
         → ((b.kind ≡ kind.Express) × (b.from ≡ 0)) ⊎ WentInParts w h a i f }
 {}
 
-/// An express mPacket of a frame that is spared is received as that frame where it arrives.
+/// A frame is spared where no line of the script names an mPacket that carries octets of it. One that went in an express mPacket is
+/// received at each arc where that arrives; and one that went in fragments where the last of them arrives, if no mPacket that
+/// began on the arc from its first one on is damaged, though some between may be lost.
 pub fn spared_frames_are_received()
-    ensures gives { (w : Scenario) → IsRouted w → (n : ℕ) (h : History) → LegalUpTo w n h → (a : ℕ) → a < length w.net.arcs → (i : ℕ) (b : Begin) (e : Ended) (f : FrameNo)
+    ensures express { (w : Scenario) → IsRouted w → (n : ℕ) (h : History) → LegalUpTo w n h → (a : ℕ) → a < length w.net.arcs → (i : ℕ) (b : Begin) (e : Ended) (f : FrameNo)
         → slice_get (Begins h a) i ≡ Some b → slice_get (Ends h a) i ≡ Some e → b.kind ≡ kind.Express → b.what ≡ what.Frame f → Spared w h f.0
         → Gives (Air w h a) i (Given.frame (FrameOf w f.0)) }
-    ensures received { (w : Scenario) → IsRouted w → (n : ℕ) (h : History) → LegalUpTo w n h → (a : ℕ) → a < length w.net.arcs → (i : ℕ) (b : Begin) (e : Ended) (f : FrameNo)
-        → slice_get (Begins h a) i ≡ Some b → slice_get (Ends h a) i ≡ Some e → b.kind ≡ kind.Express → b.what ≡ what.Frame f → Spared w h f.0
+    ensures whole { (w : Scenario) → IsRouted w → (n : ℕ) (h : History) → LegalUpTo w n h → (a : ℕ) → a < length w.net.arcs → (f : FrameNo) → Spared w h f.0
+        → (s i : ℕ) (c b : Begin) (e : Ended) → slice_get (Begins h a) s ≡ Some c → c.what ≡ what.Frame f → c.from ≡ 0
+        → slice_get (Begins h a) i ≡ Some b → slice_get (Ends h a) i ≡ Some e → b.what ≡ what.Frame f → b.from + e.size ≡ length (FrameOf w f.0)
+        → AreUndamaged w h a s i → Gives (Air w h a) i (Given.frame (FrameOf w f.0)) }
+    ensures received { (w : Scenario) (n : ℕ) (h : History) → LegalUpTo w n h → (a : ℕ) → a < length w.net.arcs → (i f : ℕ) → Gives (Air w h a) i (Given.frame (FrameOf w f))
         → (x : Arrive) → slice_get (Arrivals h a) i ≡ Some x → x.result ≡ outcome.Frame }
 {}
 
 /// Where streams and script meet the rules of their files, frames are routed.
 pub fn files_give_routes()
     ensures { (w : Scenario) → streams.Fits w.net w.streams → script.Fits w.net w.streams w.script → IsRouted w }
-{}
-
-/// A frame that went in fragments gives itself where the last of them arrives, if no line of the script loses or damages any mPacket
-/// that began on the arc from its first octet to its last.
-pub fn kept_fragments_give_the_frame()
-    ensures { (w : Scenario) → IsRouted w → (n : ℕ) (h : History) → LegalUpTo w n h → (a : ℕ) → a < length w.net.arcs → (i : ℕ) (e : Ended) → slice_get (Ends h a) i ≡ Some e
-        → (s : ℕ) → ((k : ℕ) (c : Begin) → s ≤ k → k ≤ i → slice_get (Begins h a) k ≡ Some c → IsKept w c)
-        → (b : Begin) (f : FrameNo) → slice_get (Begins h a) i ≡ Some b → is_fragment b.kind ≡ true → b.what ≡ what.Frame f → b.from + e.size ≡ length (FrameOf w f.0)
-        → (c : Begin) → slice_get (Begins h a) s ≡ Some c → c.what ≡ what.Frame f → c.from ≡ 0 → Gives (Air w h a) i (Given.frame (FrameOf w f.0)) }
 {}
 
 /// A frame that is sent comes to the first arc of its route then, and one that arrived to the next arc when the latency is over.
@@ -105,4 +102,20 @@ pub fn frames_come_on()
         → slice_get (Arrivals h a) i ≡ Some x → x.result ≡ outcome.Frame → frame_at h a i ≡ Some f → next_arc w a f ≡ Some b
         → moment_of w (x.tick + latency w a) Phase.entries < n
         → (j : ℕ) × IsEntry h j (record { tick = x.tick + latency w a; arc = b; prio = (row w f).prio; frame = f }) }
+{}
+
+/// What is told of files that fit can be written: up to the last moment, each event of a history that is legal with no alias names
+/// arcs and nodes of the network, and numbers and octets in their ranges. Priorities are below 8 by their type.
+pub fn legal_histories_are_written()
+    ensures { (w : Scenario) → streams.Fits w.net w.streams → script.Fits w.net w.streams w.script → All (λ r. r.prio < 8) w.streams.rows
+        → (n : ℕ) (h : History) → n ≤ last_moment w → LegalBefore w h n → AreWritten w.net h }
+{}
+
+/// Where no line of the script damages an mPacket, and those that it loses are on arcs that never preempt, no mPacket arrives as an
+/// alias; so there is a legal history, whatever is cut, verified and advertised.
+pub fn undamaged_scripts_have_histories()
+    ensures no_alias { (w : Scenario) → IsRouted w → KeepsFragments w → (n : ℕ) (h : History) → LegalUpTo w n h → (a : ℕ) → a < length w.net.arcs
+        → (i : ℕ) → i < length (Ends h a) → ¬ Alias w h a i }
+    ensures before { (w : Scenario) → IsRouted w → KeepsFragments w → (n : ℕ) (h : History) → LegalUpTo w n h → LegalBefore w h n }
+    ensures some { (w : Scenario) → IsRouted w → KeepsFragments w → (h : History) × Legal w h }
 {}

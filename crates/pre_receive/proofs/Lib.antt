@@ -6,3 +6,4 @@ pub mod Faulty
 pub mod OneTaken
 pub mod Lost
 pub mod LaterTaken
+pub mod Sizes

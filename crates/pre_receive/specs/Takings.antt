@@ -1,5 +1,6 @@
 -- What a receiver answers to an arrival.
-use Rattle.std.specs.Prelude.{ℕ, List, Option}
+use Rattle.std.specs.Prelude.{ℕ, ◌≤◌, List, Option, length}
+use Rattle.pre_base.specs.declared.limits.TheConstants.{LEAST_FRAME, GREATEST_FRAME}
 use Rattle.pre_mpacket.specs.Arrivals.{Given, Gives, GivesNothing}
 use Rattle.pre_receive.specs.declared.taken.Cause.{Cause}
 use Rattle.pre_receive.specs.declared.taken.Taken.{Taken}
@@ -22,3 +23,11 @@ plain (taken.Nothing c) = gave_nothing c
 abbrev pub IsTaken : List (Option (List ℕ)) → ℕ → Taking → Type 0
 IsTaken A i (gave g) = Gives A i g
 IsTaken A i (gave_nothing c) = GivesNothing A i × IsCause A i c
+
+-- where it is a frame, that has the size of one
+abbrev pub HasFrameSize : Taking → Type 0
+HasFrameSize (gave (Given.frame octets)) = (LEAST_FRAME ≤ length octets) × (length octets ≤ GREATEST_FRAME)
+HasFrameSize (gave Given.part) = Unit {0}
+HasFrameSize (gave Given.verify) = Unit {0}
+HasFrameSize (gave Given.respond) = Unit {0}
+HasFrameSize (gave_nothing c) = Unit {0}

@@ -12,7 +12,7 @@ use crate::outcomes::Outcome;
 use crate::taken::{Cause, Taken};
 use pre_base::{GREATEST_DATA, GREATEST_FRAME, LEAST_DATA};
 use pre_crc::{Running, fcs};
-use pre_mpacket::{Kind, MFault, MPacket, read_mpacket};
+use pre_mpacket::{Kind, MFault, MPacket, frames_have_their_size, read_mpacket};
 use std::alloc::{AllocError, Global};
 
 /// The mData of a verify or respond.
@@ -38,7 +38,7 @@ impl Receiver {
     ghost use mathlib.Core.Option.{none};
     ghost use denote.Follow.{follows_so};
     ghost use Rattle.pre_mpacket.specs.Spelling as spelling;
-    ghost use Rattle.pre_receive.specs.Takings.{plain, IsTaken};
+    ghost use Rattle.pre_receive.specs.Takings.{plain, IsTaken, HasFrameSize};
     ghost use Rattle.pre_receive.specs.Counts.{Count};
     ghost use Rattle.pre_receive.specs.Receivers.{Stands, taking, SortedTo};
     ghost use Rattle.pre_receive.specs.Steps.{ExpressTo, JoinedTo, ContinuedTo};
@@ -66,7 +66,9 @@ impl Receiver {
         ensures* after { sem 𝓛 (follows_so the_row the_row self.entry.ghost_name none (λ _ _. ⊤)
             (λ new. (A : List (Option (List ℕ))) → Stands self.old A → Stands new (A ++ Some arrived.now ∷ []))) }
         ensures taken { (A : List (Option (List ℕ))) → Stands self.old A → IsTaken (A ++ Some arrived.now ∷ []) (length A) (plain result) }
+        ensures size { (A : List (Option (List ℕ))) → Stands self.old A → HasFrameSize (plain result) }
     {
+        frames_have_their_size();
         let outcome = self.receive(arrived);
         self.lent(outcome)
     }

@@ -1,8 +1,18 @@
 //! Links whose modes and rings tell. Checks are the CRC-32 of the octets before them by another program.
 
-use crate::plants::{FAR, NARROW, OFF, TWO_ROWS};
+use crate::plants::{FAR, NARROW, OFF, TWO_ROWS, WIDE_FLOW, WIDE_OFF};
 use crate::running::{assert_trace_over, replayed_over, wide_sink};
+use std::alloc::{AllocError, Global};
 use std::test::Fail;
+
+/// The octets of the payload of frame 0 from the fifth on, as a trace has them.
+fn push_payload(trace: &mut String, alloc: Global, size: u32) -> Result<(), AllocError> {
+    for place in 4..size {
+        let octet = place % 256;
+        trace.push_str(format!(in alloc; "{octet:02x}")?.as_str())?;
+    }
+    Ok(())
+}
 
 /// Where a link doesn't preempt, an express frame waits for the end of a flow's frame of the greatest size.
 #[test]
@@ -22,16 +32,30 @@ fn a_link_that_does_not_preempt(rt: HostRuntime) -> Result<(), Fail> {
 1614 deliver b 1 0200000000010200000000008100c00a88b50000000105060708090a0b0c0d0e0f101112131415161718191a1b1c1d1e1f202122232425262728292a7fcde95f
 2000 end 2 2 0
 ";
-    let mut trace = String::new(alloc);
-    trace.push_str(head)?;
+    let mut trace = String::from_str(alloc, head)?;
     trace.push_str(delivered)?;
-    for place in 4..1500u32 {
-        let octet = place % 256;
-        trace.push_str(format!(in alloc; "{octet:02x}")?.as_str())?;
-    }
+    push_payload(&mut trace, alloc, 1500)?;
     trace.push_str(tail)?;
     let script = "send 0 y 1522\nsend 20 x 64\nuntil 2000\n";
     assert_trace_over(&rt, alloc, (OFF, TWO_ROWS), script, trace.as_str())?;
+    Ok(())
+}
+
+/// A frame of 2000 octets goes whole over a link that allows it, and arrives with its preamble 2008 ticks after it began.
+#[test]
+fn the_greatest_frame(rt: HostRuntime) -> Result<(), Fail> {
+    let alloc = rt.alloc();
+    let head = "0 enter a>b 0 0
+0 begin a>b 0 E 0 0
+2008 ended a>b 0 2000 7dd0e0e5
+2008 arrive a>b 0 frame
+2008 deliver b 0 0200000000010200000000008100001488b500000000";
+    let tail = "7dd0e0e5\n3000 end 1 1 0\n";
+    let mut trace = String::from_str(alloc, head)?;
+    push_payload(&mut trace, alloc, 1978)?;
+    trace.push_str(tail)?;
+    let script = "send 0 y 2000\nuntil 3000\n";
+    assert_trace_over(&rt, alloc, (WIDE_OFF, WIDE_FLOW), script, trace.as_str())?;
     Ok(())
 }
 

@@ -4,6 +4,10 @@
 pub const OFF: &str =
     "express_from = 4\n[[node]]\nname = \"a\"\nkind = \"station\"\n[[node]]\nname = \"b\"\nkind = \"station\"\n[[link]]\nends = [\"a\", \"b\"]\ncost = 1\nmode = \"off\"\nrings = [64, 64, 64, 64, 64, 64, 64, 64]\n";
 
+/// The same, for preemptable frames of up to 2000 octets.
+pub const WIDE_OFF: &str =
+    "express_from = 4\n[[node]]\nname = \"a\"\nkind = \"station\"\n[[node]]\nname = \"b\"\nkind = \"station\"\n[[link]]\nends = [\"a\", \"b\"]\ncost = 1\nmode = \"off\"\nrings = [64, 64, 64, 64, 64, 64, 64, 64]\nlargest = 2000\n";
+
 /// Two stations, and rings of one frame each.
 pub const NARROW: &str =
     "express_from = 4\n[[node]]\nname = \"a\"\nkind = \"station\"\n[[node]]\nname = \"b\"\nkind = \"station\"\n[[link]]\nends = [\"a\", \"b\"]\ncost = 1\nmode = \"on\"\nrings = [1, 1, 1, 1, 1, 1, 1, 1]\n";
@@ -27,6 +31,10 @@ pub const HALF_NEGOTIATED: &str =
 /// The built-in stream and flow.
 pub const TWO_ROWS: &str =
     "[[stream]]\nname = \"x\"\nvid = 10\nprio = 6\nroute = [\"a\", \"b\"]\nmax = 1522\nburst = 2000\nrate = 100000\n[[flow]]\nname = \"y\"\nvid = 20\nprio = 0\nroute = [\"a\", \"b\"]\nmax = 1522\n";
+
+/// A flow of the greatest frames.
+pub const WIDE_FLOW: &str =
+    "[[flow]]\nname = \"y\"\nvid = 20\nprio = 0\nroute = [\"a\", \"b\"]\nmax = 2000\n";
 
 /// A stream of short frames and a flow by way of the bridge.
 pub const BY_BRIDGE: &str =

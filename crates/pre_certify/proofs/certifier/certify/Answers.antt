@@ -12,7 +12,7 @@ returns-clause-complete c =
 
 pub returns-clause-none : goal.returns-clause-none
 returns-clause-none c =
-    no_refusal c.args.net.now c.args.streams.now c.requires (subst (λ rows. PriosBelow rows) c.as_slice.ensures c.prios_below.ensures) c.refusal_law.ensures.none _ c.certificate_of.ensures.least
+    no_refusal c.args.net.now c.args.streams.now c.requires (subst (λ rows. PriosBelow rows) c.as_slice.ensures c.prios_below.ensures) c.refusal_law.ensures.none _ c.certificate_of.ensures.least c.certificate_of.ensures.ranked
 
 pub returns-clause-alone : goal.returns-clause-alone
 returns-clause-alone c =

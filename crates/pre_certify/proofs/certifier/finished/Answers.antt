@@ -21,10 +21,19 @@ pub returns-in_ok-written-in-Ok-clause-least : goal.returns-in_ok-written-in-Ok-
 returns-in_ok-written-in-Ok-clause-least c =
     let d = delays_in c.args.delays.now in
     let r = ranks_in c.args.ranks.now in
-    c.settled_law.ensures.certificate c.args.net.now c.args.streams.now r d c.in_ok-written-in-Ok.field-0 c.requires.fits c.requires.prios c.requires.ranks.are (loads_fit c.args.net.now c.args.streams.now.rows c.requires.load)
+    (c.settled_law.ensures.certificate c.args.net.now c.args.streams.now r d c.in_ok-written-in-Ok.field-0 c.requires.fits c.requires.prios c.requires.ranks.are (loads_fit c.args.net.now c.args.streams.now.rows c.requires.load)
     (settled_delays c.args.net.now c.args.streams.now c.as_slice-in-Ok.result.now c.args.ranks.now c.args.delays.now c.as_slice-in-Ok.ensures c.requires.fits c.requires.prios c.requires.ranks c.requires.table)
     (subst (λ rows. HaveRoom c.args.net.now rows d) c.as_slice.ensures c.in-Ok.ensures.room)
-    (subst (λ rows. Says c.args.net.now rows c.in_ok-written-in-Ok.field-0 (values_over c.args.net.now rows r d)) c.as_slice-in-Ok.ensures c.in_ok-written-in-Ok.ensures)
+    (subst (λ rows. Says c.args.net.now rows c.in_ok-written-in-Ok.field-0 (values_over c.args.net.now rows r d)) c.as_slice-in-Ok.ensures c.in_ok-written-in-Ok.ensures)).0
+
+pub returns-in_ok-written-in-Ok-clause-ranked : goal.returns-in_ok-written-in-Ok-clause-ranked
+returns-in_ok-written-in-Ok-clause-ranked c =
+    let d = delays_in c.args.delays.now in
+    let r = ranks_in c.args.ranks.now in
+    (c.settled_law.ensures.certificate c.args.net.now c.args.streams.now r d c.in_ok-written-in-Ok.field-0 c.requires.fits c.requires.prios c.requires.ranks.are (loads_fit c.args.net.now c.args.streams.now.rows c.requires.load)
+    (settled_delays c.args.net.now c.args.streams.now c.as_slice-in-Ok.result.now c.args.ranks.now c.args.delays.now c.as_slice-in-Ok.ensures c.requires.fits c.requires.prios c.requires.ranks c.requires.table)
+    (subst (λ rows. HaveRoom c.args.net.now rows d) c.as_slice.ensures c.in-Ok.ensures.room)
+    (subst (λ rows. Says c.args.net.now rows c.in_ok-written-in-Ok.field-0 (values_over c.args.net.now rows r d)) c.as_slice-in-Ok.ensures c.in_ok-written-in-Ok.ensures)).1
 
 pub returns-in-Err-clause-cause : goal.returns-in-Err-clause-cause
 returns-in-Err-clause-cause c =

@@ -1,5 +1,6 @@
 use Rattle.std.proofs.Common.{arith}
 use Rattle.pre_certify.specs.Tables.{delays_in}
+use Rattle.pre_certify.proofs.Rooms.{room_next}
 use Rattle.pre_certify.proofs.rings.rings_fit.Goals as goal
 
 pub returns-in-Some-clause-cause : goal.returns-in-Some-clause-cause
@@ -17,3 +18,6 @@ returns-in-Some-clause-cause c = λ rank ranks.
         before = λ a p inside prio port less. c.loop-place.invariant a p inside prio port (omega (arith, less));
       },
     )
+
+pub loop-place-preserved : goal.loop-place-preserved
+loop-place-preserved c = room_next c.args.net.now c.args.rows.now (delays_in c.args.delays.now) c.loop-place.place c.loop-place.invariant c.in_default.ensures

@@ -1,7 +1,0 @@
-use Rattle.pre_certify.specs.Text.{rank_line}
-use Rattle.pre_certify.proofs.Lines.{line_fails}
-use Rattle.pre_certify.proofs.text.put_ranks.Goals as goal
-
-pub returns-in_err-put_rank-clause-octets : goal.returns-in_err-put_rank-clause-octets
-returns-in_err-put_rank-clause-octets g c =
-    line_fails (rank_line c.args.net.now) c.args.rows.now c.loop-row.row-index ((record { 0 = 0 }, 0)) _ _ _ c.from_residual.result c.loop-row-test.true c.from_residual.ensures.0 c.loop-row.invariant.taken c.in_err-put_rank.ensures.octets
