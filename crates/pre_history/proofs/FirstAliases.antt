@@ -111,7 +111,7 @@ module _ (w : Scenario) where
             ]
 
     module _ (es : List PlainEvent) (happens : Happens w h (moment_at (length w.net.arcs) n) es) (no_next : ¬ AliasNext w h n) where
-      next_legal : LegalUpTo w (suc n) (h ++ es)
+      pub next_legal : LegalUpTo w (suc n) (h ++ es)
       next_legal = (h, es, refl, legal, happens)
 
       at_now : AllAt (length w.net.arcs) n es
@@ -158,7 +158,7 @@ module _ (w : Scenario) where
               single r zero at = cc at
               single r (suc j) at = absurd (cc at)
 
-      none_still : (a i : ℕ) → i < length (Arrivals (h ++ es) a) → ¬ Alias w (h ++ es) a i
+      pub none_still : (a i : ℕ) → i < length (Arrivals (h ++ es) a) → ¬ Alias w (h ++ es) a i
       none_still a i lt = go (there (Arrivals (h ++ es) a) i lt)
         where
           go : (x : Arrive) × (slice_get (Arrivals (h ++ es) a) i ≡ Some x) → ¬ Alias w (h ++ es) a i

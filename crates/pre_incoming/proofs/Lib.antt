@@ -1,0 +1,12 @@
+pub mod Building
+pub mod Counted
+pub mod Damaging
+pub mod Expecting
+pub mod Goings
+pub mod Happenings
+pub mod NextOne
+pub mod OnAir
+pub mod Standing
+pub mod Telling
+pub mod Verdicts
+pub mod Xored
