@@ -1,6 +1,6 @@
 ghost use Rattle.std.specs.Prelude.{◌≡◌, ◌+◌, ◌^◌, ◌≤◌, ◌<◌, length, replicate};
 ghost use Rattle.pre_mpacket.specs.Spelling.{PlainPacket, IsWhole};
-ghost use Rattle.pre_send.specs.Tasks.{task_size, TaskTold};
+ghost use Rattle.pre_send.specs.Tasks.{task_kind, task_size, TaskTold};
 ghost use Rattle.pre_send.specs.Packets.{in_one_piece, bare};
 ghost use Rattle.pre_mpacket.specs.declared.packets.Kind.TheVariants as kind;
 
@@ -33,6 +33,18 @@ pub(crate) struct Going {
 }
 
 impl Task {
+    /// Its kind, and the place of its mData in its frame.
+    pub fn kind(&self) -> (Kind, u16)
+        ensures { result ≡ task_kind self.now }
+    {
+        match self {
+            Task::Frame(_) | Task::Lldp => (Kind::Express, 0),
+            Task::Fragment(piece) => (piece.kind(), piece.from),
+            Task::Verify => (Kind::Verify, 0),
+            Task::Respond => (Kind::Respond, 0),
+        }
+    }
+
     ghost use Rattle.pre_send.specs.Endings.{HoldsTask};
     ghost use Rattle.pre_send.specs.Lendings.{LendsTask, GivesTask};
 
