@@ -3,12 +3,12 @@ use Rattle.std.proofs.Common.{◌≡◌, ◌++◌, sym, ◌∙◌, subst}
 use Rattle.std.proofs.lemmas.List.{append_cancel_left}
 use Rattle.pre_base.specs.Sinks.{Taken}
 use Rattle.pre_topo.specs.declared.network.Network.{Network}
-use Rattle.pre_trace.specs.Deliveries.{DeliversOnce}
-use Rattle.pre_trace.specs.History.{History}
-use Rattle.pre_trace.specs.Legal.{Legal}
-use Rattle.pre_trace.specs.Scenario.{Scenario}
+use Rattle.pre_history.specs.Deliveries.{DeliversOnce}
+use Rattle.pre_history.specs.History.{History}
+use Rattle.pre_history.specs.Legal.{Legal}
+use Rattle.pre_history.specs.Scenario.{Scenario}
 use Rattle.pre_trace.specs.Text.{text}
-use Rattle.pre_trace.specs.Written.{AreWritten}
+use Rattle.pre_history.specs.Written.{AreWritten}
 use Rattle.pre_cli.specs.Written.{TakesText}
 
 abbrev pub OneTold : Type 0

@@ -11,7 +11,7 @@ use Rattle.pre_script.specs.declared.scripts.Script.{Script}
 use Rattle.pre_script.specs.declared.scripts.ScriptFault.{ScriptFault}
 use Rattle.pre_script.specs.declared.scripts.ScriptFault.TheVariants.{Fault, Memory}
 use Rattle.pre_script.specs.Reading.{script_of, ReadsAs}
-use Rattle.pre_trace.specs.Scenario.{Scenario}
+use Rattle.pre_history.specs.Scenario.{Scenario}
 use Rattle.pre_cli.specs.declared.statuses.FileWord.TheVariants as file
 use Rattle.pre_cli.specs.declared.statuses.Status.{Status}
 use Rattle.pre_cli.specs.declared.statuses.Status.TheVariants as status

@@ -4,13 +4,13 @@ use Rattle.std.proofs.lemmas.List.{append-nil}
 use Rattle.pre_base.specs.Told.{WhereTold, StillTells}
 use Rattle.pre_base.specs.Sinks.{Taken}
 use Rattle.pre_topo.specs.declared.network.Network.{Network}
-use Rattle.pre_trace.specs.Scenario.{Scenario}
-use Rattle.pre_trace.specs.History.{PlainEvent, History}
-use Rattle.pre_trace.specs.Written.{IsWritten, AreWritten, IsWritten-of, AreWritten-of}
+use Rattle.pre_history.specs.Scenario.{Scenario}
+use Rattle.pre_history.specs.History.{PlainEvent, History}
+use Rattle.pre_history.specs.Written.{IsWritten, AreWritten, IsWritten-of, AreWritten-of}
 use Rattle.pre_trace.specs.Text.{line, text}
 use Rattle.pre_trace.specs.Watching.{HoldsText, HoldsTorn}
-use Rattle.pre_trace.specs.Deliveries.{DeliversOnce}
-use Rattle.pre_trace.specs.Legal.{Legal}
+use Rattle.pre_history.specs.Deliveries.{DeliversOnce}
+use Rattle.pre_history.specs.Legal.{Legal}
 use Rattle.pre_sim.specs.declared.runs.Step.{Step}
 use Rattle.pre_sim.specs.declared.runs.Step.TheVariants.{More, Ended, Alias, Stopped, Memory}
 use Rattle.pre_sim.specs.Parts.{IsFrontOfLegal}

@@ -1,12 +1,12 @@
 -- What a command left in its sink.
 use Rattle.std.specs.Prelude.{◌≡◌, ◌⊎◌, ℕ, List, ◌++◌, true}
 use Rattle.pre_base.specs.Sinks.{Taken, TakesBut}
-use Rattle.pre_trace.specs.Scenario.{Scenario}
-use Rattle.pre_trace.specs.History.{History}
+use Rattle.pre_history.specs.Scenario.{Scenario}
+use Rattle.pre_history.specs.History.{History}
 use Rattle.pre_trace.specs.Text.{text}
-use Rattle.pre_trace.specs.Deliveries.{DeliversOnce}
-use Rattle.pre_trace.specs.Legal.{Legal, LegalBefore}
-use Rattle.pre_trace.specs.Written.{AreWritten}
+use Rattle.pre_history.specs.Deliveries.{DeliversOnce}
+use Rattle.pre_history.specs.Legal.{Legal, LegalBefore}
+use Rattle.pre_history.specs.Written.{AreWritten}
 
 -- The text of a legal history. Each of its deliveries has the octets of a frame that was sent, and no frame is delivered
 -- twice. Its events can be told over the network, so the text is no other such history's.

@@ -2,8 +2,8 @@
 use Rattle.std.proofs.Common.{ℕ, ◌≡◌, ◌+◌, List, [], ◌++◌, sym, ◌∙◌, ap, Some, append_assoc}
 use Rattle.std.specs.Prelude.{slice_get, set}
 use Rattle.std.proofs.lemmas.List.{append-nil}
-use Rattle.pre_trace.specs.Scenario.{Scenario}
-use Rattle.pre_trace.specs.History.{History}
+use Rattle.pre_history.specs.Scenario.{Scenario}
+use Rattle.pre_history.specs.History.{History}
 use Rattle.pre_bridge.specs.declared.relays.Relay.{Relay}
 use Rattle.pre_bridge.specs.Inside.{Entry, inside}
 use Rattle.pre_sim.specs.declared.lanes.Lane.{Lane}

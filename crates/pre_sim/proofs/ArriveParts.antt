@@ -16,22 +16,22 @@ use Rattle.pre_bridge.specs.declared.relays.Relay.{Relay}
 use Rattle.pre_bridge.specs.Inside.{Call, Entry, delivered as delivery, after, inside, kept}
 use Rattle.pre_bridge.specs.Table as table
 use Rattle.pre_bridge.specs.Relays.{Stands}
-use Rattle.pre_trace.specs.declared.events.What.TheVariants as what
-use Rattle.pre_trace.specs.declared.events.Outcome.TheVariants as outcome
-use Rattle.pre_trace.specs.Scenario.{Scenario, arc, row, send, source, destination, no_arc, latency, FrameOf}
-use Rattle.pre_trace.specs.Moments.{Phase}
-use Rattle.pre_trace.specs.History.{History, Begin, Ended, Arrive}
-use Rattle.pre_trace.specs.Selected.{begin_on, ended_on, arrive_on, entry_on, frame_in}
-use Rattle.pre_trace.specs.Queries.{Begins, Ends, Arrivals, Entries}
-use Rattle.pre_trace.specs.Octets.{Air}
-use Rattle.pre_trace.specs.Received.{Result}
-use Rattle.pre_trace.specs.Comings.{frame_at, next_arc}
-use Rattle.pre_trace.specs.Rules.{HappensIn, WithDelivery, arrival, delivered}
-use Rattle.pre_trace.specs.Placed.{number, AllBefore}
-use Rattle.pre_trace.specs.Ordered.{IsOrdered, HaveArrived}
-use Rattle.pre_trace.specs.Legal.{LegalUpTo}
-use Rattle.pre_trace.specs.Deliveries.{IsDirect}
-use Rattle.pre_trace.proofs.Undamaged.{user_frame}
+use Rattle.pre_history.specs.declared.events.What.TheVariants as what
+use Rattle.pre_history.specs.declared.events.Outcome.TheVariants as outcome
+use Rattle.pre_history.specs.Scenario.{Scenario, arc, row, send, source, destination, no_arc, latency, FrameOf}
+use Rattle.pre_history.specs.Moments.{Phase}
+use Rattle.pre_history.specs.History.{History, Begin, Ended, Arrive}
+use Rattle.pre_history.specs.Selected.{begin_on, ended_on, arrive_on, entry_on, frame_in}
+use Rattle.pre_history.specs.Queries.{Begins, Ends, Arrivals, Entries}
+use Rattle.pre_history.specs.Octets.{Air}
+use Rattle.pre_history.specs.Received.{Result}
+use Rattle.pre_history.specs.Comings.{frame_at, next_arc}
+use Rattle.pre_history.specs.Rules.{HappensIn, WithDelivery, arrival, delivered}
+use Rattle.pre_history.specs.Placed.{number, AllBefore}
+use Rattle.pre_history.specs.Ordered.{IsOrdered, HaveArrived}
+use Rattle.pre_history.specs.Legal.{LegalUpTo}
+use Rattle.pre_history.specs.Deliveries.{IsDirect}
+use Rattle.pre_history.proofs.Undamaged.{user_frame}
 use Rattle.pre_sim.specs.declared.lanes.Flight.{Flight}
 use Rattle.pre_sim.specs.declared.lanes.Lane.{Lane}
 use Rattle.pre_sim.specs.Reach.{CanRun}

@@ -2,8 +2,8 @@
 use Rattle.std.proofs.Common.{ℕ, ◌≡◌, ◌+◌, ◌-◌, ◌≤◌, List, [], ◌∷◌, length, drop, refl, arith, subst, Option, Some}
 use Rattle.std.specs.Prelude.{slice_get}
 use Rattle.std.proofs.lemmas.List.{drop-drop, length-drop}
-use Rattle.pre_trace.specs.Scenario.{Scenario}
-use Rattle.pre_trace.specs.History.{Begin, Ended}
+use Rattle.pre_history.specs.Scenario.{Scenario}
+use Rattle.pre_history.specs.History.{Begin, Ended}
 use Rattle.pre_rings.specs.Ports.{Port}
 use Rattle.pre_sim.specs.declared.lanes.Sending.{Sending}
 use Rattle.pre_sim.specs.declared.lanes.Flight.{Flight}

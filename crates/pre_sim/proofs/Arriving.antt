@@ -3,12 +3,12 @@ use Rattle.std.proofs.Common.{ℕ, zero, suc, ◌≡◌, ◌≢◌, ◌+◌, ◌
 use Rattle.std.specs.Prelude.{slice_get}
 use Rattle.std.specs.List.{AllByRecursion as Every}
 use Rattle.std.proofs.lemmas.Bool.{cases_lt}
-use Rattle.pre_trace.specs.Scenario.{Scenario, arc}
-use Rattle.pre_trace.specs.Moments.{Phase}
-use Rattle.pre_trace.specs.History.{History, Ended, Arrive}
-use Rattle.pre_trace.specs.Queries.{Begins, Ends, Arrivals}
-use Rattle.pre_trace.specs.Rules.{Arriving, HappensIn}
-use Rattle.pre_trace.specs.Ordered.{IsOrdered}
+use Rattle.pre_history.specs.Scenario.{Scenario, arc}
+use Rattle.pre_history.specs.Moments.{Phase}
+use Rattle.pre_history.specs.History.{History, Ended, Arrive}
+use Rattle.pre_history.specs.Queries.{Begins, Ends, Arrivals}
+use Rattle.pre_history.specs.Rules.{Arriving, HappensIn}
+use Rattle.pre_history.specs.Ordered.{IsOrdered}
 use Rattle.pre_sim.proofs.Lists.{there, within, every_at, each_empty, each_at}
 
 module _ (w : Scenario) (h : History) (t a : ℕ) (order : IsOrdered w h a) (cost : 1 ≤ (arc w a).cost) (early : Every (λ (x : Arrive). x.tick < t) (Arrivals h a)) where

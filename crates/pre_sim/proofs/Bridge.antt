@@ -3,9 +3,9 @@ use Rattle.std.proofs.Common.{ℕ, ◌≡◌, ◌≤◌, ◌<◌, ◌==◌, ◌&
 use Rattle.std.specs.List.{list_any, AllByRecursion as Every}
 use Rattle.std.proofs.Math.Path.{fun_ext}
 use Rattle.std.proofs.Math.Bool.{and-true}
-use Rattle.pre_trace.specs.History.{Begin, History}
-use Rattle.pre_trace.specs.Selected.{RingEntry, what_is}
-use Rattle.pre_trace.specs.Queries.{Begins, Entries, begun_before, Waiting}
+use Rattle.pre_history.specs.History.{Begin, History}
+use Rattle.pre_history.specs.Selected.{RingEntry, what_is}
+use Rattle.pre_history.specs.Queries.{Begins, Entries, begun_before, Waiting}
 use Rattle.pre_sim.specs.Stands.{has_begun, StillWaiting}
 use Rattle.pre_sim.proofs.NumberTests.{is_lt, is_le}
 

@@ -8,10 +8,10 @@ use Rattle.pre_topo.specs.declared.arcs.Mode.{Mode}
 use Rattle.pre_topo.specs.declared.arcs.Mode.TheVariants as mode
 use Rattle.pre_script.specs.declared.scripts.SetLine.{SetLine}
 use Rattle.pre_script.specs.Rules.{negotiates, is_negotiate}
-use Rattle.pre_trace.specs.Scenario.{Scenario, no_arc}
-use Rattle.pre_trace.specs.Moments.{Phase}
-use Rattle.pre_trace.specs.History.{PlainEvent, History}
-use Rattle.pre_trace.specs.Rules.{HappensIn}
+use Rattle.pre_history.specs.Scenario.{Scenario, no_arc}
+use Rattle.pre_history.specs.Moments.{Phase}
+use Rattle.pre_history.specs.History.{PlainEvent, History}
+use Rattle.pre_history.specs.Rules.{HappensIn}
 use Rattle.pre_sim.specs.Reach.{CanRun}
 use Rattle.pre_sim.proofs.Lists.{within, read_at}
 

@@ -17,9 +17,9 @@ use Rattle.pre_streams.specs.declared.rows.Row.{Row}
 use Rattle.pre_streams.specs.Rows.{IsRow, Leads}
 use Rattle.pre_script.specs.Rules.{is_off}
 use Rattle.pre_script.specs.Saying.{is_off_at, may_be_sent}
-use Rattle.pre_trace.specs.Scenario.{Scenario, arc, row, send, no_arc, no_row, no_send}
-use Rattle.pre_trace.specs.Comings.{hops}
-use Rattle.pre_trace.specs.Deliveries.{IsDirect, IsPlain}
+use Rattle.pre_history.specs.Scenario.{Scenario, arc, row, send, no_arc, no_row, no_send}
+use Rattle.pre_history.specs.Comings.{hops}
+use Rattle.pre_history.specs.Deliveries.{IsDirect, IsPlain}
 use Rattle.pre_sim.specs.Reach.{CanRun}
 use Rattle.pre_sim.proofs.Lists.{read_at, within}
 use Rattle.pre_sim.proofs.NumberTests.{both_true, or_false}

@@ -8,16 +8,16 @@ use Rattle.std.proofs.Math.Path.{fun_ext}
 use Rattle.pre_rings.specs.Ports.{Port}
 use Rattle.pre_rings.specs.Stores.{HoldsAt}
 use Rattle.pre_topo.specs.declared.arcs.Arc.{Arc}
-use Rattle.pre_trace.specs.Scenario.{Scenario, arc, no_arc, FrameOf}
-use Rattle.pre_trace.specs.Moments.{Phase}
-use Rattle.pre_trace.specs.History.{PlainEvent, History, Begin, Ended}
-use Rattle.pre_trace.specs.Selected.{RingEntry, what_is, begin_on, ended_on, arrive_on, entry_on}
-use Rattle.pre_trace.specs.Queries.{Begins, Ends, Arrivals, Entries}
-use Rattle.pre_trace.specs.Rules.{HappensIn, last_four}
-use Rattle.pre_trace.specs.Placed.{number, AllBefore}
-use Rattle.pre_trace.specs.Ordered.{IsOrdered, HaveSizes}
-use Rattle.pre_trace.specs.Legal.{LegalUpTo}
-use Rattle.pre_trace.proofs.Undamaged.{length-FrameOf}
+use Rattle.pre_history.specs.Scenario.{Scenario, arc, no_arc, FrameOf}
+use Rattle.pre_history.specs.Moments.{Phase}
+use Rattle.pre_history.specs.History.{PlainEvent, History, Begin, Ended}
+use Rattle.pre_history.specs.Selected.{RingEntry, what_is, begin_on, ended_on, arrive_on, entry_on}
+use Rattle.pre_history.specs.Queries.{Begins, Ends, Arrivals, Entries}
+use Rattle.pre_history.specs.Rules.{HappensIn, last_four}
+use Rattle.pre_history.specs.Placed.{number, AllBefore}
+use Rattle.pre_history.specs.Ordered.{IsOrdered, HaveSizes}
+use Rattle.pre_history.specs.Legal.{LegalUpTo}
+use Rattle.pre_history.proofs.Undamaged.{length-FrameOf}
 use Rattle.pre_bridge.specs.Inside.{Entry}
 use Rattle.pre_sim.specs.declared.lanes.Sending.{Sending}
 use Rattle.pre_sim.specs.declared.lanes.Flight.{Flight}

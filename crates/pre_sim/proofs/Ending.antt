@@ -5,16 +5,16 @@ use Rattle.std.specs.List.{AllByRecursion as Every}
 use Rattle.std.proofs.lemmas.List.{length-append}
 use Rattle.pre_mpacket.specs.declared.packets.Kind.TheVariants as kind
 use Rattle.pre_rings.specs.Ports.{Port}
-use Rattle.pre_trace.specs.declared.events.What.TheVariants as what
-use Rattle.pre_trace.specs.Scenario.{Scenario, arc, send, FrameOf}
-use Rattle.pre_trace.specs.Moments.{Phase}
-use Rattle.pre_trace.specs.History.{PlainEvent, History, Begin, Ended}
-use Rattle.pre_trace.specs.Queries.{Begins, Ends}
-use Rattle.pre_trace.specs.Octets.{WholeOf, whole_of}
-use Rattle.pre_trace.specs.Starts.{SizeOf}
-use Rattle.pre_trace.specs.Rules.{OneOrNone, EndDue, CheckOf, last_four, HappensIn}
-use Rattle.pre_trace.specs.Ordered.{IsOrdered, HaveSizes}
-use Rattle.pre_trace.proofs.Undamaged.{length-FrameOf}
+use Rattle.pre_history.specs.declared.events.What.TheVariants as what
+use Rattle.pre_history.specs.Scenario.{Scenario, arc, send, FrameOf}
+use Rattle.pre_history.specs.Moments.{Phase}
+use Rattle.pre_history.specs.History.{PlainEvent, History, Begin, Ended}
+use Rattle.pre_history.specs.Queries.{Begins, Ends}
+use Rattle.pre_history.specs.Octets.{WholeOf, whole_of}
+use Rattle.pre_history.specs.Starts.{SizeOf}
+use Rattle.pre_history.specs.Rules.{OneOrNone, EndDue, CheckOf, last_four, HappensIn}
+use Rattle.pre_history.specs.Ordered.{IsOrdered, HaveSizes}
+use Rattle.pre_history.proofs.Undamaged.{length-FrameOf}
 use Rattle.pre_sim.specs.declared.lanes.Sending.{Sending}
 use Rattle.pre_sim.specs.declared.lanes.Flight.{Flight}
 use Rattle.pre_sim.specs.Stands.{IsSent, IsFlying, AreFlying, IsWholeBegin, IsLane}

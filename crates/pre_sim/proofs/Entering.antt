@@ -8,11 +8,11 @@ use Rattle.std.proofs.lemmas.List.{append-nil, map-append, get_or_past}
 use Rattle.std.proofs.lemmas.List.Elements.{filter_map-append, filter-append}
 use Rattle.pre_rings.specs.declared.slots.FrameRef.{FrameRef}
 use Rattle.pre_rings.specs.Ports.{Port, IsPort, frames_at, capacity_at, with_frames}
-use Rattle.pre_trace.specs.Scenario.{Scenario, row, capacity}
-use Rattle.pre_trace.specs.History.{PlainEvent, History, Begin, Ended}
-use Rattle.pre_trace.specs.Selected.{RingEntry, what_is, entry_on, begin_on}
-use Rattle.pre_trace.specs.Queries.{Begins, Entries, Waiting}
-use Rattle.pre_trace.specs.Comings.{Coming, entry_for, entry_event}
+use Rattle.pre_history.specs.Scenario.{Scenario, row, capacity}
+use Rattle.pre_history.specs.History.{PlainEvent, History, Begin, Ended}
+use Rattle.pre_history.specs.Selected.{RingEntry, what_is, entry_on, begin_on}
+use Rattle.pre_history.specs.Queries.{Begins, Entries, Waiting}
+use Rattle.pre_history.specs.Comings.{Coming, entry_for, entry_event}
 use Rattle.pre_sim.specs.declared.lanes.Sending.{Sending}
 use Rattle.pre_sim.specs.declared.lanes.Flight.{Flight}
 use Rattle.pre_sim.specs.Stands.{IsLane, AreApart, ring_numbers, has_begun, StillWaiting}

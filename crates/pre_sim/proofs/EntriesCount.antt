@@ -4,11 +4,11 @@ use Rattle.std.specs.Prelude.{slice_index_or, Contains, ◌==◌}
 use Rattle.std.proofs.lemmas.Bool.{cases_lt}
 use Rattle.std.proofs.lemmas.Bool.Decides.{nat_tests}
 use Rattle.pre_script.specs.declared.scripts.SendLine.{SendLine}
-use Rattle.pre_trace.specs.Scenario.{Scenario, send, no_send}
+use Rattle.pre_history.specs.Scenario.{Scenario, send, no_send}
 use Rattle.pre_base.specs.declared.numbers.FrameNo.{FrameNo}
-use Rattle.pre_trace.specs.History.{History}
-use Rattle.pre_trace.specs.Comings.{hops, first_arc}
-use Rattle.pre_trace.proofs.Routes.{first_on}
+use Rattle.pre_history.specs.History.{History}
+use Rattle.pre_history.specs.Comings.{hops, first_arc}
+use Rattle.pre_history.proofs.Routes.{first_on}
 use Rattle.pre_sim.specs.Reach.{CanRun}
 use Rattle.pre_bridge.specs.declared.relays.Relay.{Relay}
 use Rattle.pre_bridge.specs.Inside.{inside}

@@ -2,10 +2,10 @@
 use Rattle.std.proofs.Common.{ℕ, ◌≡◌, ◌≤◌, ◌<◌, ◌+◌, ◌*◌, ◌==◌, ◌&&◌, Bool, true, false, ap, arith, subst, Some, None}
 use Rattle.std.specs.Prelude.{if◌then◌else◌}
 use Rattle.std.specs.Option.{option_map_or}
-use Rattle.pre_trace.specs.Moments.{moments}
-use Rattle.pre_trace.specs.History.{PlainEvent, History, Begin, Entry}
-use Rattle.pre_trace.specs.Selected.{RingEntry, begin_on, entry_on}
-use Rattle.pre_trace.specs.Placed.{number, IsBefore, AllBefore}
+use Rattle.pre_history.specs.Moments.{moments}
+use Rattle.pre_history.specs.History.{PlainEvent, History, Begin, Entry}
+use Rattle.pre_history.specs.Selected.{RingEntry, begin_on, entry_on}
+use Rattle.pre_history.specs.Placed.{number, IsBefore, AllBefore}
 use Rattle.pre_sim.specs.Sends.{BeforeEntries}
 use Rattle.pre_sim.proofs.Lists.{every_selected}
 use Rattle.pre_sim.proofs.Moments.{tick_lt}

@@ -4,12 +4,12 @@ use Rattle.std.specs.Prelude.{if◌then◌else◌, slice_index_or}
 use Rattle.std.specs.List.{cons_option, AllByRecursion as Every}
 use Rattle.std.proofs.lemmas.List.{append-nil}
 use Rattle.std.proofs.lemmas.List.Elements.{filter_map-append, recursion_from_All}
-use Rattle.pre_trace.specs.Scenario.{Scenario, row, capacity}
-use Rattle.pre_trace.specs.History.{PlainEvent, History, Begin}
-use Rattle.pre_trace.specs.Selected.{RingEntry, what_is, begin_on, entry_on}
-use Rattle.pre_trace.specs.Queries.{Begins, Entries, Waiting}
-use Rattle.pre_trace.specs.Comings.{Coming, EntriesOf, entry_event, entry_for}
-use Rattle.pre_trace.specs.Deliveries.{ComeOnce}
+use Rattle.pre_history.specs.Scenario.{Scenario, row, capacity}
+use Rattle.pre_history.specs.History.{PlainEvent, History, Begin}
+use Rattle.pre_history.specs.Selected.{RingEntry, what_is, begin_on, entry_on}
+use Rattle.pre_history.specs.Queries.{Begins, Entries, Waiting}
+use Rattle.pre_history.specs.Comings.{Coming, EntriesOf, entry_event, entry_for}
+use Rattle.pre_history.specs.Deliveries.{ComeOnce}
 use Rattle.pre_sim.specs.Sends.{IsNew, AreNew}
 use Rattle.pre_sim.proofs.Lists.{every-append, every_front}
 use Rattle.pre_sim.proofs.NumberTests.{same_number}

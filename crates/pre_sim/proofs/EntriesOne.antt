@@ -6,11 +6,11 @@ use Rattle.std.proofs.lemmas.List.{append-nil, length-map}
 use Rattle.std.proofs.lemmas.List.Elements.{filter_map-append}
 use Rattle.pre_rings.specs.declared.slots.FrameRef.{FrameRef}
 use Rattle.pre_rings.specs.Ports.{Port, frames_at, capacity_at, with_frames}
-use Rattle.pre_trace.specs.Scenario.{Scenario, row, capacity}
-use Rattle.pre_trace.specs.History.{PlainEvent, History, Entry}
-use Rattle.pre_trace.specs.Selected.{is_dropped, begin_on, ended_on, arrive_on}
-use Rattle.pre_trace.specs.Queries.{Begins, Ends, Arrivals, Deliveries, Waiting}
-use Rattle.pre_trace.specs.Comings.{Coming, entry_event}
+use Rattle.pre_history.specs.Scenario.{Scenario, row, capacity}
+use Rattle.pre_history.specs.History.{PlainEvent, History, Entry}
+use Rattle.pre_history.specs.Selected.{is_dropped, begin_on, ended_on, arrive_on}
+use Rattle.pre_history.specs.Queries.{Begins, Ends, Arrivals, Deliveries, Waiting}
+use Rattle.pre_history.specs.Comings.{Coming, entry_event}
 use Rattle.pre_bridge.specs.Inside.{of_arc}
 use Rattle.pre_bridge.specs.Inside as inner
 use Rattle.pre_sim.specs.declared.lanes.Lane.{Lane}

@@ -5,18 +5,18 @@ use Rattle.std.specs.List.{AllByRecursion as Every}
 use Rattle.std.proofs.lemmas.Bool.{cases_lt}
 use Rattle.std.proofs.lemmas.List.{append-nil, length-append}
 use Rattle.std.proofs.lemmas.List.Elements.{filter_map-append}
-use Rattle.pre_trace.specs.Scenario.{Scenario, send, no_send}
-use Rattle.pre_trace.specs.Moments.{Phase, moments}
-use Rattle.pre_trace.specs.History.{PlainEvent, History, Arrive}
-use Rattle.pre_trace.specs.Selected.{arrive_on, delivery_of, is_dropped}
-use Rattle.pre_trace.specs.Queries.{Arrivals, Deliveries}
-use Rattle.pre_trace.specs.Placed.{number, IsBefore, AllBefore}
-use Rattle.pre_trace.specs.Ordered.{IsOrdered}
-use Rattle.pre_trace.specs.Comings.{Coming, sends_from, Comings, EntriesOf}
-use Rattle.pre_trace.specs.Rules.{HappensIn}
-use Rattle.pre_trace.specs.Legal.{LegalUpTo}
-use Rattle.pre_trace.specs.Deliveries.{IsDirect, ComeOnce}
-use Rattle.pre_trace.proofs.Moments.{entries_place}
+use Rattle.pre_history.specs.Scenario.{Scenario, send, no_send}
+use Rattle.pre_history.specs.Moments.{Phase, moments}
+use Rattle.pre_history.specs.History.{PlainEvent, History, Arrive}
+use Rattle.pre_history.specs.Selected.{arrive_on, delivery_of, is_dropped}
+use Rattle.pre_history.specs.Queries.{Arrivals, Deliveries}
+use Rattle.pre_history.specs.Placed.{number, IsBefore, AllBefore}
+use Rattle.pre_history.specs.Ordered.{IsOrdered}
+use Rattle.pre_history.specs.Comings.{Coming, sends_from, Comings, EntriesOf}
+use Rattle.pre_history.specs.Rules.{HappensIn}
+use Rattle.pre_history.specs.Legal.{LegalUpTo}
+use Rattle.pre_history.specs.Deliveries.{IsDirect, ComeOnce}
+use Rattle.pre_history.proofs.Moments.{entries_place}
 use Rattle.pre_bridge.specs.declared.relays.Relay.{Relay}
 use Rattle.pre_bridge.specs.Inside.{Call, Entry, taken, inside}
 use Rattle.pre_bridge.specs.Turns.{dues}

@@ -2,11 +2,11 @@
 use Rattle.std.proofs.Common.{ℕ, ◌≡◌, ◌+◌, List, [], ◌++◌, length, refl, sym, ◌∙◌, ap, subst, append_assoc}
 use Rattle.std.proofs.lemmas.List.{append-nil, length-append}
 use Rattle.std.proofs.lemmas.List.Elements.{filter_map-append}
-use Rattle.pre_trace.specs.Scenario.{Scenario}
-use Rattle.pre_trace.specs.History.{History}
-use Rattle.pre_trace.specs.Selected.{is_dropped, delivery_of}
-use Rattle.pre_trace.specs.Queries.{Deliveries}
-use Rattle.pre_trace.specs.Comings.{Coming, EntriesOf}
+use Rattle.pre_history.specs.Scenario.{Scenario}
+use Rattle.pre_history.specs.History.{History}
+use Rattle.pre_history.specs.Selected.{is_dropped, delivery_of}
+use Rattle.pre_history.specs.Queries.{Deliveries}
+use Rattle.pre_history.specs.Comings.{Coming, EntriesOf}
 use Rattle.pre_sim.specs.declared.lanes.Lane.{Lane}
 use Rattle.pre_sim.specs.Stands.{LanesStand}
 use Rattle.pre_sim.specs.Sends.{BeforeEntries, AreNew, ComesPart, ComesFront}

@@ -4,11 +4,11 @@ use Rattle.std.specs.Prelude.{slice_index_or}
 use Rattle.std.specs.List.{AllByRecursion as Every}
 use Rattle.std.proofs.lemmas.List.{map-append, length-append, take_all, flat_map_more}
 use Rattle.pre_script.specs.declared.scripts.SendLine.{SendLine}
-use Rattle.pre_trace.specs.Scenario.{Scenario, no_arc, send, no_send}
-use Rattle.pre_trace.specs.History.{Arrive, History}
-use Rattle.pre_trace.specs.Queries.{Begins, Arrivals}
-use Rattle.pre_trace.specs.Ordered.{IsOrdered}
-use Rattle.pre_trace.specs.Comings.{below, relayed, sends_from, Comings}
+use Rattle.pre_history.specs.Scenario.{Scenario, no_arc, send, no_send}
+use Rattle.pre_history.specs.History.{Arrive, History}
+use Rattle.pre_history.specs.Queries.{Begins, Arrivals}
+use Rattle.pre_history.specs.Ordered.{IsOrdered}
+use Rattle.pre_history.specs.Comings.{below, relayed, sends_from, Comings}
 use Rattle.pre_bridge.specs.Inside.{Entry, of_arc}
 use Rattle.pre_bridge.specs.Turns.{dues_of_arc, dues}
 use Rattle.pre_bridge.specs.Turns as turns

@@ -8,8 +8,8 @@ use Rattle.pre_base.specs.declared.numbers.ArcId.{ArcId}
 use Rattle.pre_rings.specs.declared.slots.FrameRef.{FrameRef}
 use Rattle.pre_topo.specs.declared.network.Network.{Network}
 use Rattle.pre_streams.specs.declared.rows.Streams.{Streams}
-use Rattle.pre_trace.specs.Scenario.{Scenario}
-use Rattle.pre_trace.specs.History.{History}
+use Rattle.pre_history.specs.Scenario.{Scenario}
+use Rattle.pre_history.specs.History.{History}
 use Rattle.pre_bridge.specs.declared.relays.Relay.{Relay}
 use Rattle.pre_bridge.specs.Inside.{Call, Entry, taken, inside, after, comes_out, without_first, leaving, handed}
 use Rattle.pre_bridge.specs.Turns.{IsTurn, dues}

@@ -6,9 +6,9 @@ use Rattle.std.proofs.Math.Path.{fun_ext}
 use Rattle.std.proofs.lemmas.List.{append-nil, map-append}
 use Rattle.std.proofs.lemmas.List.Elements.{filter_map-append, filter-append}
 use Rattle.pre_topo.specs.declared.network.Network.{Network}
-use Rattle.pre_trace.specs.History.{PlainEvent, History, Begin, Entry}
-use Rattle.pre_trace.specs.Selected.{RingEntry, what_is, entry_on, entry_of, begin_on}
-use Rattle.pre_trace.specs.Queries.{Begins, Entries}
+use Rattle.pre_history.specs.History.{PlainEvent, History, Begin, Entry}
+use Rattle.pre_history.specs.Selected.{RingEntry, what_is, entry_on, entry_of, begin_on}
+use Rattle.pre_history.specs.Queries.{Begins, Entries}
 use Rattle.pre_sim.specs.declared.halts.Halt.{Halt}
 use Rattle.pre_sim.specs.declared.halts.Halt.TheVariants.{Stopped, Memory}
 use Rattle.pre_sim.specs.Telling.{HasCause}

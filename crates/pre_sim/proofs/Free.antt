@@ -2,11 +2,11 @@
 use Rattle.std.proofs.Common.{ℕ, ◌≡◌, ◌+◌, ◌-◌, ◌*◌, ◌<◌, ◌≤◌, length, sym, ◌∙◌, ap, arith, subst, Some, None}
 use Rattle.std.specs.Prelude.{slice_get, MatchOption, ⊤}
 use Rattle.std.specs.List.{AllByRecursion as Every}
-use Rattle.pre_trace.specs.Scenario.{Scenario, arc}
-use Rattle.pre_trace.specs.History.{History, Begin, Ended}
-use Rattle.pre_trace.specs.Queries.{Begins, Ends, Packet, Packets, packet, end_of, IsUnderWay, Occupied}
-use Rattle.pre_trace.specs.Ordered.{IsOrdered}
-use Rattle.pre_trace.proofs.Free.{first_numbered}
+use Rattle.pre_history.specs.Scenario.{Scenario, arc}
+use Rattle.pre_history.specs.History.{History, Begin, Ended}
+use Rattle.pre_history.specs.Queries.{Begins, Ends, Packet, Packets, packet, end_of, IsUnderWay, Occupied}
+use Rattle.pre_history.specs.Ordered.{IsOrdered}
+use Rattle.pre_history.proofs.Free.{first_numbered}
 use Rattle.pre_sim.specs.declared.lanes.Sending.{Sending}
 use Rattle.pre_sim.specs.Stands.{IsSent, IsFreeFrom}
 use Rattle.pre_sim.proofs.Lists.{there, within, every_at, found_at, any_at, past_end, map_at, at_map}

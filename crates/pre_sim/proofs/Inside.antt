@@ -5,12 +5,12 @@ use Rattle.std.specs.List.{cons_option, AllByRecursion as Every}
 use Rattle.std.proofs.lemmas.Bool.{cases_eq}
 use Rattle.std.proofs.lemmas.List.{map-append, take-append-le, take-append-drop, length-append}
 use Rattle.std.proofs.lemmas.List.Elements.{filter_map-append}
-use Rattle.pre_trace.specs.Scenario.{Scenario, arc, latency}
-use Rattle.pre_trace.specs.History.{History, Begin, Arrive}
-use Rattle.pre_trace.specs.Selected.{frame_in, is_frame_result}
-use Rattle.pre_trace.specs.Queries.{Begins, Ends, Arrivals}
-use Rattle.pre_trace.specs.Comings.{Coming, frame_at, next_arc, relayed}
-use Rattle.pre_trace.specs.Ordered.{IsOrdered}
+use Rattle.pre_history.specs.Scenario.{Scenario, arc, latency}
+use Rattle.pre_history.specs.History.{History, Begin, Arrive}
+use Rattle.pre_history.specs.Selected.{frame_in, is_frame_result}
+use Rattle.pre_history.specs.Queries.{Begins, Ends, Arrivals}
+use Rattle.pre_history.specs.Comings.{Coming, frame_at, next_arc, relayed}
+use Rattle.pre_history.specs.Ordered.{IsOrdered}
 use Rattle.pre_bridge.specs.Inside.{Entry, is_due}
 use Rattle.pre_sim.specs.Stands.{Onward, onward, passes, AreInside}
 use Rattle.pre_sim.specs.Sends.{coming_of}

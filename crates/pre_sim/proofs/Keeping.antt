@@ -9,8 +9,8 @@ use Rattle.std.proofs.lemmas.List.{append-nil}
 use Rattle.pre_rings.specs.declared.slots.FrameRef.{FrameRef}
 use Rattle.pre_rings.specs.Ports.{Port, IsPort, frames_at, with_frames}
 use Rattle.pre_rings.specs.Stores.{HoldsAt}
-use Rattle.pre_trace.specs.Scenario.{Scenario, arc, row, send, FrameOf}
-use Rattle.pre_trace.proofs.Undamaged.{length-FrameOf}
+use Rattle.pre_history.specs.Scenario.{Scenario, arc, row, send, FrameOf}
+use Rattle.pre_history.proofs.Undamaged.{length-FrameOf}
 use Rattle.pre_bridge.specs.Inside.{Entry}
 use Rattle.pre_sim.specs.declared.lanes.Sending.{Sending}
 use Rattle.pre_sim.specs.declared.lanes.Flight.{Flight}

@@ -4,16 +4,16 @@ use Rattle.std.specs.Prelude.{slice_get, set, count_by}
 use Rattle.std.specs.List.{sum_by, remove, AllByRecursion as Every}
 use Rattle.std.proofs.lemmas.List.{append-nil, take_at}
 use Rattle.std.proofs.lemmas.List.Sums.{sum_by-cons, sum_by-append, sum_by-set, length-filter, count_by-le-length}
-use Rattle.pre_trace.specs.History.{PlainEvent}
-use Rattle.pre_trace.specs.Rules.{Each}
+use Rattle.pre_history.specs.History.{PlainEvent}
+use Rattle.pre_history.specs.Rules.{Each}
 -- an element at a place
 pub use Rattle.std.proofs.lemmas.Option.{slice_get_within as within, slice_get_past as past_end, slice_get-get_or as find_at, get_or_from_slice_get as read_at}
 pub use Rattle.std.proofs.lemmas.List.{drop-append-le as drop-append}
-pub use Rattle.pre_trace.proofs.Lists.{there, at_last, at_front, found_at, any_at}
+pub use Rattle.pre_history.proofs.Lists.{there, at_last, at_front, found_at, any_at}
 -- an element of a list of images
-pub use Rattle.pre_trace.proofs.Chosen.{from_map as map_at, into_map as at_map}
+pub use Rattle.pre_history.proofs.Chosen.{from_map as map_at, into_map as at_map}
 -- each of a list
-pub use Rattle.pre_trace.proofs.Lists.{every-append, every_weaker, every_at, every_placed, every_filter, every_selected, none_selected}
+pub use Rattle.pre_history.proofs.Lists.{every-append, every_weaker, every_at, every_placed, every_filter, every_selected, none_selected}
 
 -- more behind a list change none of its elements
 pub get_front : {X : Type 0} (xs ys : List X) (i : ℕ) → i < length xs → slice_get (xs ++ ys) i ≡ slice_get xs i

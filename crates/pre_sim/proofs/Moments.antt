@@ -7,20 +7,20 @@ use Rattle.std.proofs.lemmas.Nat.{div-mul-add}
 use Rattle.std.proofs.Math.Arith.{digits_mod}
 use Rattle.std.proofs.Math.Nat.{mul-le-mul_right}
 use Rattle.std.proofs.lemmas.List.{append-nil}
-use Rattle.pre_trace.specs.Scenario.{Scenario}
-use Rattle.pre_trace.specs.History.{PlainEvent, History, Begin, Ended, Arrive}
-use Rattle.pre_trace.specs.Moments.{Phase, Moment, moments, phase_at, moment_at}
-use Rattle.pre_trace.specs.Selected.{RingEntry, begin_on, ended_on, arrive_on, entry_on}
-use Rattle.pre_trace.specs.Queries.{Begins, Ends, Arrivals, Entries}
-use Rattle.pre_trace.specs.Placed.{number, IsBefore, AllBefore}
-use Rattle.pre_trace.specs.Rules.{Happens, HappensIn}
-use Rattle.pre_trace.specs.Legal.{LegalUpTo}
+use Rattle.pre_history.specs.Scenario.{Scenario}
+use Rattle.pre_history.specs.History.{PlainEvent, History, Begin, Ended, Arrive}
+use Rattle.pre_history.specs.Moments.{Phase, Moment, moments, phase_at, moment_at}
+use Rattle.pre_history.specs.Selected.{RingEntry, begin_on, ended_on, arrive_on, entry_on}
+use Rattle.pre_history.specs.Queries.{Begins, Ends, Arrivals, Entries}
+use Rattle.pre_history.specs.Placed.{number, IsBefore, AllBefore}
+use Rattle.pre_history.specs.Rules.{Happens, HappensIn}
+use Rattle.pre_history.specs.Legal.{LegalUpTo}
 use Rattle.pre_sim.specs.Parts.{LegalAt, IsFront}
 use Rattle.pre_sim.proofs.Lists.{every_selected}
 use Rattle.pre_sim.proofs.NumberTests.{same_number}
 -- the places of the phases, and what the numbers of moments say of their ticks
-pub use Rattle.pre_trace.proofs.Moments.{ends_place, arrivals_place, expiries_place, starts_place}
-pub use Rattle.pre_trace.proofs.Turns.{tick_lt, tick_le}
+pub use Rattle.pre_history.proofs.Moments.{ends_place, arrivals_place, expiries_place, starts_place}
+pub use Rattle.pre_history.proofs.Turns.{tick_lt, tick_le}
 
 moment_in : (arcs t k : ℕ) → k < moments arcs → moment_at arcs (number arcs t k) ≡ record { tick = t; phase = phase_at arcs k }
 moment_in arcs t k within =

@@ -9,8 +9,8 @@ use Rattle.pre_topo.specs.declared.arcs.Arc.{Arc}
 use Rattle.pre_topo.specs.Arcs.{latency_at}
 use Rattle.pre_streams.specs.declared.rows.Row.{Row}
 use Rattle.pre_bridge.specs.Table.{onward, latency_of}
-use Rattle.pre_trace.specs.Scenario.{Scenario, no_arc, no_row, row, send, latency}
-use Rattle.pre_trace.specs.Comings.{after, hops, next_arc}
+use Rattle.pre_history.specs.Scenario.{Scenario, no_arc, no_row, row, send, latency}
+use Rattle.pre_history.specs.Comings.{after, hops, next_arc}
 use Rattle.pre_sim.specs.Reach.{CanRun}
 use Rattle.pre_sim.proofs.Lists.{within, read_at, at_map, find_at, map_at}
 use Rattle.pre_sim.proofs.Direct.{known_row}

@@ -6,10 +6,10 @@ use Rattle.std.proofs.lemmas.Bool.{cases_eq}
 use Rattle.std.proofs.lemmas.List.{append-nil, length-append}
 use Rattle.std.proofs.lemmas.List.Elements.{filter_map-append, filter-append}
 use Rattle.std.proofs.Math.Nat.{add-zero}
-use Rattle.pre_trace.specs.Scenario.{Scenario}
-use Rattle.pre_trace.specs.History.{PlainEvent, History}
-use Rattle.pre_trace.specs.Selected.{begin_on, ended_on, arrive_on, entry_on, delivery_of, is_dropped}
-use Rattle.pre_trace.specs.Queries.{Begins, Ends, Arrivals, Deliveries}
+use Rattle.pre_history.specs.Scenario.{Scenario}
+use Rattle.pre_history.specs.History.{PlainEvent, History}
+use Rattle.pre_history.specs.Selected.{begin_on, ended_on, arrive_on, entry_on, delivery_of, is_dropped}
+use Rattle.pre_history.specs.Queries.{Begins, Ends, Arrivals, Deliveries}
 use Rattle.pre_bridge.specs.Inside.{Entry, of_arc}
 use Rattle.pre_sim.specs.declared.lanes.Lane.{Lane}
 use Rattle.pre_sim.specs.Keeps.{Store, Keeps}

@@ -6,10 +6,10 @@ use Rattle.std.proofs.lemmas.List.{replicate_more}
 use Rattle.std.proofs.lemmas.Option.{slice_get_past}
 use Rattle.pre_topo.specs.declared.network.Network.{Network}
 use Rattle.pre_streams.specs.declared.rows.Streams.{Streams}
-use Rattle.pre_trace.specs.Scenario.{Scenario, no_arc}
-use Rattle.pre_trace.specs.History.{History, Arrive}
-use Rattle.pre_trace.specs.Queries.{Begins, Arrivals}
-use Rattle.pre_trace.specs.Ordered.{IsOrdered}
+use Rattle.pre_history.specs.Scenario.{Scenario, no_arc}
+use Rattle.pre_history.specs.History.{History, Arrive}
+use Rattle.pre_history.specs.Queries.{Begins, Arrivals}
+use Rattle.pre_history.specs.Ordered.{IsOrdered}
 use Rattle.pre_bridge.specs.declared.relays.Relay.{Relay}
 use Rattle.pre_bridge.specs.Inside.{Call, Entry, taken, inside, leaving, is_due, of_arc}
 use Rattle.pre_bridge.specs.Turns.{dues}

@@ -10,15 +10,15 @@ use Rattle.pre_rings.specs.Ports.{Port, frames_at, with_frames}
 use Rattle.pre_topo.specs.declared.arcs.Arc.{Arc}
 use Rattle.pre_topo.specs.declared.arcs.Mode.TheVariants as mode
 use Rattle.pre_mpacket.specs.declared.packets.Kind.TheVariants as kind
-use Rattle.pre_trace.specs.declared.events.What.TheVariants as what
-use Rattle.pre_trace.specs.Scenario.{Scenario, arc, send, no_arc}
-use Rattle.pre_trace.specs.Moments.{Phase}
-use Rattle.pre_trace.specs.History.{PlainEvent, History, Begin, Arrive}
-use Rattle.pre_trace.specs.Selected.{begin_on, ended_on, arrive_on}
-use Rattle.pre_trace.specs.Queries.{Begins, Ends, Arrivals, Waiting, Occupied}
-use Rattle.pre_trace.specs.Rules.{HappensIn}
-use Rattle.pre_trace.specs.Placed.{number}
-use Rattle.pre_trace.specs.Ordered.{IsOrdered}
+use Rattle.pre_history.specs.declared.events.What.TheVariants as what
+use Rattle.pre_history.specs.Scenario.{Scenario, arc, send, no_arc}
+use Rattle.pre_history.specs.Moments.{Phase}
+use Rattle.pre_history.specs.History.{PlainEvent, History, Begin, Arrive}
+use Rattle.pre_history.specs.Selected.{begin_on, ended_on, arrive_on}
+use Rattle.pre_history.specs.Queries.{Begins, Ends, Arrivals, Waiting, Occupied}
+use Rattle.pre_history.specs.Rules.{HappensIn}
+use Rattle.pre_history.specs.Placed.{number}
+use Rattle.pre_history.specs.Ordered.{IsOrdered}
 use Rattle.pre_bridge.specs.Inside.{Entry}
 use Rattle.pre_sim.specs.declared.lanes.Sending.{Sending}
 use Rattle.pre_sim.specs.declared.lanes.Lane.{Lane}

@@ -12,11 +12,11 @@ use Rattle.pre_base.specs.declared.numbers.FrameNo.{FrameNo}
 use Rattle.pre_mpacket.specs.declared.packets.Kind.TheVariants as kind
 use Rattle.pre_rings.specs.declared.slots.FrameRef.{FrameRef}
 use Rattle.pre_rings.specs.Ports.{Port, IsPort, frames_at, with_frames}
-use Rattle.pre_trace.specs.declared.events.What.TheVariants as what
-use Rattle.pre_trace.specs.Scenario.{Scenario, arc, row, send}
-use Rattle.pre_trace.specs.History.{PlainEvent, History, Begin, Ended}
-use Rattle.pre_trace.specs.Selected.{RingEntry, what_is, begin_on, entry_on}
-use Rattle.pre_trace.specs.Queries.{Begins, Entries}
+use Rattle.pre_history.specs.declared.events.What.TheVariants as what
+use Rattle.pre_history.specs.Scenario.{Scenario, arc, row, send}
+use Rattle.pre_history.specs.History.{PlainEvent, History, Begin, Ended}
+use Rattle.pre_history.specs.Selected.{RingEntry, what_is, begin_on, entry_on}
+use Rattle.pre_history.specs.Queries.{Begins, Entries}
 use Rattle.pre_sim.specs.declared.lanes.Sending.{Sending}
 use Rattle.pre_sim.specs.declared.lanes.Flight.{Flight}
 use Rattle.pre_sim.specs.Keeps.{Store, Waits}

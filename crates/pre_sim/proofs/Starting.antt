@@ -10,15 +10,15 @@ use Rattle.pre_mpacket.specs.declared.packets.Kind.TheVariants as kind
 use Rattle.pre_mpacket.specs.Arrivals.{is_start, is_fragment}
 use Rattle.pre_rings.specs.declared.slots.FrameRef.{FrameRef}
 use Rattle.pre_rings.specs.Ports.{Port, IsPort, frames_at}
-use Rattle.pre_trace.specs.declared.events.What.TheVariants as what
-use Rattle.pre_trace.specs.Scenario.{Scenario, arc}
-use Rattle.pre_trace.specs.Moments.{Phase}
-use Rattle.pre_trace.specs.History.{PlainEvent, History, Begin}
-use Rattle.pre_trace.specs.Selected.{from_last}
-use Rattle.pre_trace.specs.Queries.{Begins, Packet, Packets, packet, PacketsBefore, Waiting, Occupied}
-use Rattle.pre_trace.specs.LinkState.{Active, ActiveIn}
-use Rattle.pre_trace.specs.Starts.{Item, Choice, There, StartRule, IsFront, PreemptableAs, place, whole_frame}
-use Rattle.pre_trace.specs.Rules.{HappensIn}
+use Rattle.pre_history.specs.declared.events.What.TheVariants as what
+use Rattle.pre_history.specs.Scenario.{Scenario, arc}
+use Rattle.pre_history.specs.Moments.{Phase}
+use Rattle.pre_history.specs.History.{PlainEvent, History, Begin}
+use Rattle.pre_history.specs.Selected.{from_last}
+use Rattle.pre_history.specs.Queries.{Begins, Packet, Packets, packet, PacketsBefore, Waiting, Occupied}
+use Rattle.pre_history.specs.LinkState.{Active, ActiveIn}
+use Rattle.pre_history.specs.Starts.{Item, Choice, There, StartRule, IsFront, PreemptableAs, place, whole_frame}
+use Rattle.pre_history.specs.Rules.{HappensIn}
 use Rattle.pre_sim.specs.Keeps.{Store, Waits}
 use Rattle.pre_sim.specs.Reach.{CanRun}
 use Rattle.pre_sim.specs.Choices.{NoneWaits, least_whole}

@@ -1,14 +1,14 @@
 -- What a step tells, by what its tick told.
 use Rattle.std.proofs.Common.{ℕ, ◌≡◌, ◌+◌, ◌*◌, Bool, true, false, List, [], ◌∷◌, ◌++◌, length, refl, sym, ◌∙◌, ap, arith, subst, None}
 use Rattle.std.specs.Prelude.{All, zero, suc, map, replicate, slice_index_or}
-use Rattle.pre_trace.specs.Scenario.{Scenario, arc}
-use Rattle.pre_trace.specs.Moments.{moments}
-use Rattle.pre_trace.specs.History.{PlainEvent, History}
-use Rattle.pre_trace.specs.Written.{IsWritten, AreWritten}
-use Rattle.pre_trace.specs.Queries.{Arrivals}
-use Rattle.pre_trace.specs.Placed.{number}
-use Rattle.pre_trace.specs.Deliveries.{IsPlain}
-use Rattle.pre_trace.specs.Legal.{LegalUpTo, Legal, Alias}
+use Rattle.pre_history.specs.Scenario.{Scenario, arc}
+use Rattle.pre_history.specs.Moments.{moments}
+use Rattle.pre_history.specs.History.{PlainEvent, History}
+use Rattle.pre_history.specs.Written.{IsWritten, AreWritten}
+use Rattle.pre_history.specs.Queries.{Arrivals}
+use Rattle.pre_history.specs.Placed.{number}
+use Rattle.pre_history.specs.Deliveries.{IsPlain}
+use Rattle.pre_history.specs.Legal.{LegalUpTo, Legal, Alias}
 use Rattle.pre_sim.specs.declared.lanes.Lane.{Lane}
 use Rattle.pre_sim.specs.declared.runs.Step.TheVariants as step
 use Rattle.pre_sim.specs.declared.ticks.Progress.{Progress}

@@ -6,11 +6,11 @@ use mir.Val.{bool_byte}
 use Rattle.std.proofs.lemmas.Bool.{false≢true}
 use Rattle.std.proofs.lemmas.List.{append-nil}
 use Rattle.pre_topo.specs.declared.network.Network.{Network}
-use Rattle.pre_trace.specs.History.{PlainEvent, History}
+use Rattle.pre_history.specs.History.{PlainEvent, History}
 use Rattle.pre_sim.specs.declared.halts.Halt.{Halt}
 use Rattle.pre_sim.specs.declared.halts.Halt.TheVariants.{Stopped, Memory}
 use Rattle.pre_sim.specs.Telling.{TellsAll}
-use Rattle.pre_trace.specs.Written.{AreWritten-append}
+use Rattle.pre_history.specs.Written.{AreWritten-append}
 use Rattle.pre_sim.specs.Told.{tells_nothing, tells_then}
 use Rattle.pre_sim.specs.Parts.{TellsOne, TellsPart, count_of}
 

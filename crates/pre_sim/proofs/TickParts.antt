@@ -11,18 +11,18 @@ use Rattle.std.proofs.lemmas.Bool.Decides.{Decides-eqb, eqb_tells}
 use Rattle.std.proofs.lemmas.Map.Steps.{length-le_from_distinct_below}
 use Rattle.std.proofs.Math.ListN.{get_or-map}
 use Rattle.std.proofs.Math.Nat.{add-zero}
-use Rattle.pre_trace.specs.Scenario.{Scenario}
-use Rattle.pre_trace.specs.Moments.{Phase, moments}
-use Rattle.pre_trace.specs.History.{PlainEvent, History, Delivery}
-use Rattle.pre_trace.specs.Selected.{delivery_of, is_dropped}
-use Rattle.pre_trace.specs.Queries.{Arrivals, Deliveries}
-use Rattle.pre_trace.specs.Placed.{number}
+use Rattle.pre_history.specs.Scenario.{Scenario}
+use Rattle.pre_history.specs.Moments.{Phase, moments}
+use Rattle.pre_history.specs.History.{PlainEvent, History, Delivery}
+use Rattle.pre_history.specs.Selected.{delivery_of, is_dropped}
+use Rattle.pre_history.specs.Queries.{Arrivals, Deliveries}
+use Rattle.pre_history.specs.Placed.{number}
 use Rattle.pre_bridge.specs.declared.relays.Relay.{Relay}
 use Rattle.pre_bridge.specs.Inside.{Call, Entry, inside}
 use Rattle.pre_bridge.specs.Relays.{Stands}
 use Rattle.pre_sim.specs.Keeps.{Store, Keeps, IsKept}
-use Rattle.pre_trace.specs.Deliveries.{DeliversOnce}
-use Rattle.pre_trace.specs.Legal.{LegalUpTo, Legal, Alias, CountLines, closing, last_moment}
+use Rattle.pre_history.specs.Deliveries.{DeliversOnce}
+use Rattle.pre_history.specs.Legal.{LegalUpTo, Legal, Alias, CountLines, closing, last_moment}
 use Rattle.pre_sim.specs.declared.lanes.Lane.{Lane}
 use Rattle.pre_sim.specs.declared.ticks.Progress.{Progress}
 use Rattle.pre_sim.specs.Reach.{CanRun}

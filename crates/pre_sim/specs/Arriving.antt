@@ -3,9 +3,9 @@ use Rattle.std.specs.Prelude.{ℕ, ◌≡◌, ◌≢◌, Bool, true, false, List
 use Rattle.pre_rings.specs.declared.slots.FrameRef.{FrameRef}
 use Rattle.pre_topo.specs.declared.network.Network.{Network}
 use Rattle.pre_streams.specs.declared.rows.Streams.{Streams}
-use Rattle.pre_trace.specs.declared.events.Outcome.TheVariants as outcome
-use Rattle.pre_trace.specs.Scenario.{no_arc}
-use Rattle.pre_trace.specs.History.{PlainEvent}
+use Rattle.pre_history.specs.declared.events.Outcome.TheVariants as outcome
+use Rattle.pre_history.specs.Scenario.{no_arc}
+use Rattle.pre_history.specs.History.{PlainEvent}
 use Rattle.pre_bridge.specs.declared.relays.Relay.{Relay}
 use Rattle.pre_bridge.specs.Inside.{Call, delivered}
 use Rattle.pre_bridge.specs.Table as table

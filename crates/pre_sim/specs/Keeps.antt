@@ -6,8 +6,8 @@ use Rattle.pre_base.specs.declared.numbers.FrameNo.{FrameNo}
 use Rattle.pre_rings.specs.declared.slots.FrameRef.{FrameRef}
 use Rattle.pre_rings.specs.Ports.{IsPort, frames_at}
 use Rattle.pre_rings.specs.Stores.{HoldsAt}
-use Rattle.pre_trace.specs.Scenario.{Scenario, arc, row, send, FrameOf}
-use Rattle.pre_trace.specs.Comings.{hops}
+use Rattle.pre_history.specs.Scenario.{Scenario, arc, row, send, FrameOf}
+use Rattle.pre_history.specs.Comings.{hops}
 use Rattle.pre_bridge.specs.declared.relays.Relay.{Relay}
 use Rattle.pre_bridge.specs.Inside.{Call, Entry, inside}
 use Rattle.pre_bridge.specs.Relays.{Stands}

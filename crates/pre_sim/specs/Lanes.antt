@@ -1,7 +1,7 @@
 -- What a lane is at first, and what is taken from it.
 use Rattle.std.specs.Prelude.{ℕ, ◌≡◌, ◌≢◌, List, [], length, drop, replicate, Some, None, slice_get, slice_index_or}
 use Rattle.pre_topo.specs.declared.arcs.Arc.{Arc}
-use Rattle.pre_trace.specs.Scenario.{no_arc}
+use Rattle.pre_history.specs.Scenario.{no_arc}
 use Rattle.pre_sim.specs.declared.lanes.Sending.{Sending}
 use Rattle.pre_sim.specs.declared.lanes.Flight.{Flight}
 use Rattle.pre_sim.specs.declared.lanes.Lane.{Lane}

@@ -4,13 +4,13 @@ use Rattle.std.specs.List.{AllByRecursion as Every}
 use Rattle.pre_rings.specs.declared.slots.FrameRef.{FrameRef}
 use Rattle.pre_rings.specs.Ports.{Port, frames_at, capacity_at, with_frames}
 use Rattle.pre_topo.specs.declared.network.Network.{Network}
-use Rattle.pre_trace.specs.Scenario.{Scenario, send}
-use Rattle.pre_trace.specs.Placed.{number}
-use Rattle.pre_trace.specs.History.{PlainEvent, History}
-use Rattle.pre_trace.specs.Written.{IsWritten, AreWritten}
-use Rattle.pre_trace.specs.Selected.{is_dropped}
-use Rattle.pre_trace.specs.Queries.{Deliveries}
-use Rattle.pre_trace.specs.Legal.{LegalUpTo, LegalBefore, Legal}
+use Rattle.pre_history.specs.Scenario.{Scenario, send}
+use Rattle.pre_history.specs.Placed.{number}
+use Rattle.pre_history.specs.History.{PlainEvent, History}
+use Rattle.pre_history.specs.Written.{IsWritten, AreWritten}
+use Rattle.pre_history.specs.Selected.{is_dropped}
+use Rattle.pre_history.specs.Queries.{Deliveries}
+use Rattle.pre_history.specs.Legal.{LegalUpTo, LegalBefore, Legal}
 use Rattle.pre_bridge.specs.declared.relays.Relay.{Relay}
 use Rattle.pre_bridge.specs.Inside.{Call, Entry, inside}
 use Rattle.pre_bridge.specs.Relays.{Stands}

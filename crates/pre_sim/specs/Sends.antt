@@ -2,11 +2,11 @@
 use Rattle.std.specs.Prelude.{ℕ, zero, suc, ◌+◌, ◌<◌, ◌≤◌, ◌≡◌, ◌≢◌, min, Bool, true, false, List, [], ◌∷◌, ◌++◌, length, map, take, count_by, replicate, Contains}
 use Rattle.std.specs.List.{AllByRecursion as Every}
 use Rattle.pre_rings.specs.declared.slots.FrameRef.{FrameRef}
-use Rattle.pre_trace.specs.Scenario.{Scenario}
-use Rattle.pre_trace.specs.History.{History}
-use Rattle.pre_trace.specs.Selected.{what_is, is_dropped}
-use Rattle.pre_trace.specs.Queries.{Begins, Entries, Deliveries}
-use Rattle.pre_trace.specs.Comings.{Coming, first_arc, hops, EntriesOf}
+use Rattle.pre_history.specs.Scenario.{Scenario}
+use Rattle.pre_history.specs.History.{History}
+use Rattle.pre_history.specs.Selected.{what_is, is_dropped}
+use Rattle.pre_history.specs.Queries.{Begins, Entries, Deliveries}
+use Rattle.pre_history.specs.Comings.{Coming, first_arc, hops, EntriesOf}
 use Rattle.pre_bridge.specs.declared.relays.Relay.{Relay}
 use Rattle.pre_bridge.specs.Inside.{Call, Entry, taken, inside}
 use Rattle.pre_bridge.specs.Turns.{dues}

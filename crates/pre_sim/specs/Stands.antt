@@ -5,14 +5,14 @@ use Rattle.std.specs.List.{list_any, AllByRecursion as Every}
 use Rattle.pre_base.specs.declared.numbers.FrameNo.{FrameNo}
 use Rattle.pre_mpacket.specs.declared.packets.Kind.TheVariants as kind
 use Rattle.pre_rings.specs.Ports.{Port, frames_at}
-use Rattle.pre_trace.specs.declared.events.What.TheVariants as what
-use Rattle.pre_trace.specs.Scenario.{Scenario, arc, send, capacity, latency}
-use Rattle.pre_trace.specs.Placed.{number}
-use Rattle.pre_trace.specs.History.{Begin, Ended, Arrive, History}
-use Rattle.pre_trace.specs.Selected.{what_is, frame_in, is_frame_result, is_dropped}
-use Rattle.pre_trace.specs.Queries.{Begins, Ends, Arrivals, Entries, Deliveries}
-use Rattle.pre_trace.specs.Comings.{next_arc}
-use Rattle.pre_trace.specs.Legal.{LegalUpTo}
+use Rattle.pre_history.specs.declared.events.What.TheVariants as what
+use Rattle.pre_history.specs.Scenario.{Scenario, arc, send, capacity, latency}
+use Rattle.pre_history.specs.Placed.{number}
+use Rattle.pre_history.specs.History.{Begin, Ended, Arrive, History}
+use Rattle.pre_history.specs.Selected.{what_is, frame_in, is_frame_result, is_dropped}
+use Rattle.pre_history.specs.Queries.{Begins, Ends, Arrivals, Entries, Deliveries}
+use Rattle.pre_history.specs.Comings.{next_arc}
+use Rattle.pre_history.specs.Legal.{LegalUpTo}
 use Rattle.pre_bridge.specs.Inside.{Call, Entry, of_arc, inside}
 use Rattle.pre_bridge.specs.Relays as relays
 use Rattle.pre_sim.specs.declared.lanes.Sending.{Sending}

@@ -1,9 +1,9 @@
 -- What a step of a run does, by its answer.
 use Rattle.std.specs.Prelude.{◌≡◌, ℕ, ◌+◌, ◌≤◌, Bool, true, false, List, [], ◌∷◌, ◌++◌}
 use Rattle.pre_base.specs.Faults.{Rose}
-use Rattle.pre_trace.specs.History.{PlainEvent, History}
-use Rattle.pre_trace.specs.Written.{IsWritten, AreWritten}
-use Rattle.pre_trace.specs.Legal.{Legal}
+use Rattle.pre_history.specs.History.{PlainEvent, History}
+use Rattle.pre_history.specs.Written.{IsWritten, AreWritten}
+use Rattle.pre_history.specs.Legal.{Legal}
 use Rattle.pre_sim.specs.declared.runs.Step.{Step}
 use Rattle.pre_sim.specs.declared.runs.Step.TheVariants.{More, Ended, Alias, Stopped, Memory}
 use Rattle.pre_sim.specs.Telling.{TellsAll}

@@ -2,8 +2,8 @@
 use Rattle.std.specs.Prelude.{ℕ, ◌≤◌, List, ◌++◌, Result, Ok, Err}
 use Rattle.pre_base.specs.Faults.{Rose}
 use Rattle.pre_topo.specs.declared.network.Network.{Network}
-use Rattle.pre_trace.specs.History.{History}
-use Rattle.pre_trace.specs.Written.{AreWritten}
+use Rattle.pre_history.specs.History.{History}
+use Rattle.pre_history.specs.Written.{AreWritten}
 use Rattle.pre_sim.specs.declared.halts.Halt.{Halt}
 use Rattle.pre_sim.specs.declared.halts.Halt.TheVariants.{Stopped, Memory}
 

@@ -1,9 +1,9 @@
 -- What contracts see of a run.
 use Rattle.std.specs.Prelude.{ℕ, Bool, length}
-use Rattle.pre_trace.specs.Scenario.{Scenario}
-use Rattle.pre_trace.specs.History.{History}
-use Rattle.pre_trace.specs.Placed.{number}
-use Rattle.pre_trace.specs.Legal.{LegalBefore}
+use Rattle.pre_history.specs.Scenario.{Scenario}
+use Rattle.pre_history.specs.History.{History}
+use Rattle.pre_history.specs.Placed.{number}
+use Rattle.pre_history.specs.Legal.{LegalBefore}
 use Rattle.pre_sim.specs.declared.ticks.Progress.{Progress}
 use Rattle.pre_sim.specs.Stands.{Reaches}
 

@@ -3,7 +3,7 @@ ghost use Rattle.pre_rings.specs.Stores.{IsOut};
 ghost use Rattle.pre_bridge.specs.declared.relays.Relay.{Relay};
 ghost use Rattle.pre_bridge.specs.Inside.{Call};
 ghost use Rattle.pre_bridge.specs.Relays.{Stands};
-ghost use Rattle.pre_trace.specs.Rules.{last_four};
+ghost use Rattle.pre_history.specs.Rules.{last_four};
 ghost use Rattle.pre_sim.specs.declared.halts.Halt.TheVariants.{Memory};
 ghost use Rattle.pre_sim.specs.Telling.{HasCause};
 ghost use Rattle.pre_sim.specs.Reach.{CanRun};

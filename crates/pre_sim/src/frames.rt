@@ -1,7 +1,7 @@
 ghost use Rattle.std.specs.Prelude.{◌≡◌, ◌<◌, ◌≤◌, ◌++◌, IfOk, IfErr, length, drop, slice_get, Some};
 ghost use Rattle.pre_streams.specs.Rows.{IsRow};
-ghost use Rattle.pre_trace.specs.Scenario.{row, send, FrameOf};
-ghost use Rattle.pre_trace.specs.Comings as comings;
+ghost use Rattle.pre_history.specs.Scenario.{row, send, FrameOf};
+ghost use Rattle.pre_history.specs.Comings as comings;
 ghost use Rattle.pre_sim.specs.declared.halts.Halt.TheVariants.{Memory};
 ghost use Rattle.pre_sim.specs.Reach.{CanRun};
 ghost use Rattle.pre_sim.specs.Keeps.{IsFrameOf};

@@ -1,5 +1,5 @@
-ghost use Rattle.pre_trace.specs.Scenario.{Scenario};
-ghost use Rattle.pre_trace.specs.Deliveries.{IsPlain};
+ghost use Rattle.pre_history.specs.Scenario.{Scenario};
+ghost use Rattle.pre_history.specs.Deliveries.{IsPlain};
 ghost use Rattle.pre_sim.specs.Reach.{CanRun};
 
 /// What can be run so far sends whole frames alone, and nothing of it is lost or damaged.

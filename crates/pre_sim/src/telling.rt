@@ -1,6 +1,6 @@
 ghost use Rattle.std.specs.Prelude.{◌≡◌};
-ghost use Rattle.pre_trace.specs.Plain.{plain, IsEvent};
-ghost use Rattle.pre_trace.specs.Names.{IsOf};
+ghost use Rattle.pre_history.specs.Plain.{plain, IsEvent};
+ghost use Rattle.pre_history.specs.Names.{IsOf};
 ghost use Rattle.pre_sim.specs.Parts.{TellsOne};
 ghost use Rattle.pre_sim.specs.Telling.{HasCause};
 

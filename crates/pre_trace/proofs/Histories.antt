@@ -4,8 +4,8 @@ use Rattle.std.proofs.lemmas.List.{append-nil}
 use Rattle.pre_base.specs.Told.{WhereTold}
 use Rattle.pre_base.specs.Sinks.{Taken, TakesAll}
 use Rattle.pre_topo.specs.declared.network.Network.{Network}
-use Rattle.pre_trace.specs.History.{PlainEvent, History}
-use Rattle.pre_trace.specs.Names.{IsOf, AreOf}
+use Rattle.pre_history.specs.History.{PlainEvent, History}
+use Rattle.pre_history.specs.Names.{IsOf, AreOf}
 use Rattle.pre_trace.specs.Text.{line, text}
 use Rattle.pre_trace.specs.Watching.{GoesOn, HoldsText, HoldsTorn}
 

@@ -14,13 +14,13 @@ use Rattle.pre_script.specs.declared.scripts.Setting.{Setting}
 use Rattle.pre_script.specs.declared.scripts.Setting.TheVariants as setting
 use Rattle.pre_mpacket.specs.declared.packets.Kind.{Kind}
 use Rattle.pre_mpacket.specs.declared.packets.Kind.TheVariants as kind
-use Rattle.pre_trace.specs.declared.events.What.{What}
-use Rattle.pre_trace.specs.declared.events.What.TheVariants as what
-use Rattle.pre_trace.specs.declared.events.Outcome.{Outcome}
-use Rattle.pre_trace.specs.declared.events.Outcome.TheVariants as outcome
-use Rattle.pre_trace.specs.History.{Entry, PlainEvent, History}
+use Rattle.pre_history.specs.declared.events.What.{What}
+use Rattle.pre_history.specs.declared.events.What.TheVariants as what
+use Rattle.pre_history.specs.declared.events.Outcome.{Outcome}
+use Rattle.pre_history.specs.declared.events.Outcome.TheVariants as outcome
+use Rattle.pre_history.specs.History.{Entry, PlainEvent, History}
 use Rattle.pre_trace.specs.Text.{setting_word, kind_word, what_word, outcome_word, yes_word, line, text}
-use Rattle.pre_trace.specs.Written.{IsNumber, IsWhat, HasOctets, IsWritten, AreWritten}
+use Rattle.pre_history.specs.Written.{IsNumber, IsWhat, HasOctets, IsWritten, AreWritten}
 use Rattle.pre_trace.proofs.NameWords.{node_one, node_word, arc_one, arc_word}
 
 -- what is known of texts: laws of the crate below

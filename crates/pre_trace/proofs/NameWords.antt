@@ -12,8 +12,8 @@ use Rattle.pre_topo.specs.Names.{name_of_arc}
 use Rattle.pre_topo.specs.Named.{node_name, arc_name}
 use Rattle.pre_topo.specs.Nodes.{IsNode}
 use Rattle.pre_topo.specs.Arcs.{IsArc, JoinsOther}
-use Rattle.pre_trace.specs.Names.{HasArc, HasNode}
-use Rattle.pre_trace.proofs.Lists.{there}
+use Rattle.pre_history.specs.Names.{HasArc, HasNode}
+use Rattle.pre_history.proofs.Lists.{there}
 
 and_parts : (b c : Bool) → (b && c) ≡ true → (b ≡ true) × (c ≡ true)
 and_parts true true is = (refl, refl)

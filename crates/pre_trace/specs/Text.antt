@@ -8,11 +8,11 @@ use Rattle.pre_script.specs.declared.scripts.Setting.{Setting}
 use Rattle.pre_script.specs.declared.scripts.Setting.TheVariants as setting
 use Rattle.pre_mpacket.specs.declared.packets.Kind.{Kind}
 use Rattle.pre_mpacket.specs.declared.packets.Kind.TheVariants as kind
-use Rattle.pre_trace.specs.declared.events.What.{What}
-use Rattle.pre_trace.specs.declared.events.What.TheVariants as what
-use Rattle.pre_trace.specs.declared.events.Outcome.{Outcome}
-use Rattle.pre_trace.specs.declared.events.Outcome.TheVariants as outcome
-use Rattle.pre_trace.specs.History.{PlainEvent, History}
+use Rattle.pre_history.specs.declared.events.What.{What}
+use Rattle.pre_history.specs.declared.events.What.TheVariants as what
+use Rattle.pre_history.specs.declared.events.Outcome.{Outcome}
+use Rattle.pre_history.specs.declared.events.Outcome.TheVariants as outcome
+use Rattle.pre_history.specs.History.{PlainEvent, History}
 
 abbrev pub setting_word : Setting → List ℕ
 setting_word setting.On = codes "on"

@@ -1,21 +1,19 @@
-//! Traces: the events of a run, their text, and what watches them.
+//! Traces: the text of a history, and what watches the events of a run.
 #![tactic(auto)]
 
-mod events;
 mod laws;
 mod text;
 mod watchers;
-mod written;
 
-pub use events::{Event, Outcome, What};
-pub use laws::{
-    active_is_told, arcs_are_links, deliveries_are_what_was_sent, direct_arrivals,
-    events_before_their_end, frames_come_once, idle_moments, mpackets_in_order, one_history,
-    one_told_history, queries_stay, small_histories_are_legal, tests_are_decided, turns_are_kept,
+pub use laws::one_told_history;
+pub use pre_history::{
+    Event, Outcome, What, active_is_told, arcs_are_links, deliveries_are_what_was_sent,
+    direct_arrivals, events_are_written, events_before_their_end, frames_come_once, idle_moments,
+    mpackets_in_order, one_history, queries_stay, small_histories_are_legal, tests_are_decided,
+    turns_are_kept,
 };
 pub use text::put_event;
 pub use watchers::{TraceWatcher, Watcher};
-pub use written::events_are_written;
 
 #[cfg(test)]
 mod tests;

@@ -1,4 +1,4 @@
-ghost use Rattle.pre_trace.specs.Plain.{plain, IsEvent};
+ghost use Rattle.pre_history.specs.Plain.{plain, IsEvent};
 
 use super::*;
 use pre_base::{ArcId, FrameNo, MemorySink, NodeId, Prio, Sink, Tick};

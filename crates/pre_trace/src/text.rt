@@ -5,8 +5,8 @@ ghost use Rattle.pre_base.specs.Told.{WhereTold};
 ghost use Rattle.pre_base.specs.Sinks.{TakesAll};
 ghost use Rattle.pre_text.specs.Spelled.{spelled};
 ghost use Rattle.pre_topo.specs.Named.{node_name, arc_name};
-ghost use Rattle.pre_trace.specs.Plain.{plain, IsKind, IsEvent};
-ghost use Rattle.pre_trace.specs.Names.{HasArc, HasNode, IsOf};
+ghost use Rattle.pre_history.specs.Plain.{plain, IsKind, IsEvent};
+ghost use Rattle.pre_history.specs.Names.{HasArc, HasNode, IsOf};
 ghost use Rattle.pre_trace.specs.Text.{kind_word, what_word, setting_word, outcome_word, yes_word, line};
 
 use crate::{Event, Outcome, What};

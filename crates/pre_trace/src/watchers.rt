@@ -2,9 +2,9 @@ ghost use Rattle.std.specs.Prelude.{◌≡◌, ◌↔◌, ℕ, List, IsTrue};
 ghost use Rattle.std.proofs.Common.{refl, ◌∙◌};
 ghost use Rattle.pre_base.specs.Faults.{HasCause};
 ghost use Rattle.pre_base.specs.Told.{StillTells, StillTells-refl, StillTells-trans};
-ghost use Rattle.pre_trace.specs.History.{History, PlainEvent};
-ghost use Rattle.pre_trace.specs.Plain.{plain, IsEvent};
-ghost use Rattle.pre_trace.specs.Names.{HasArc, HasNode, IsOf};
+ghost use Rattle.pre_history.specs.History.{History, PlainEvent};
+ghost use Rattle.pre_history.specs.Plain.{plain, IsEvent};
+ghost use Rattle.pre_history.specs.Names.{HasArc, HasNode, IsOf};
 ghost use Rattle.pre_trace.specs.Watching.{GoesOn, HoldsText, HoldsTorn};
 
 use crate::{Event, put_event};

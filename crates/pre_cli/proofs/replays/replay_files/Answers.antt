@@ -1,4 +1,4 @@
-use Rattle.pre_trace.specs.Scenario.{Scenario}
+use Rattle.pre_history.specs.Scenario.{Scenario}
 use Rattle.pre_cli.specs.Answers.{Outside}
 use Rattle.pre_cli.specs.Words.{ReplayWords, replay_words}
 use Rattle.pre_cli.proofs.ReplayLemmas.{run_cause, run_leaves}

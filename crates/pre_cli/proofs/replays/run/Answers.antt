@@ -1,5 +1,5 @@
 use Rattle.std.proofs.Common.{◌≡◌, rules, subst}
-use Rattle.pre_trace.specs.Scenario.{Scenario}
+use Rattle.pre_history.specs.Scenario.{Scenario}
 use Rattle.pre_cli.specs.Runs.{RunLeaves}
 use Rattle.pre_cli.proofs.Runs.{run_leaves, nothing_left}
 use Rattle.pre_cli.proofs.replays.run.Goals as goal

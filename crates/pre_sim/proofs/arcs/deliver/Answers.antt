@@ -1,6 +1,6 @@
 use Rattle.std.proofs.Common.{sym, ap, subst, List, ℕ}
-use Rattle.pre_trace.specs.Scenario.{no_arc}
-use Rattle.pre_trace.specs.History.{PlainEvent}
+use Rattle.pre_history.specs.Scenario.{no_arc}
+use Rattle.pre_history.specs.History.{PlainEvent}
 use Rattle.pre_topo.specs.declared.arcs.Arc.{Arc}
 use Rattle.pre_sim.specs.Parts.{TellsOne}
 use Rattle.pre_sim.proofs.Lists.{read_at}

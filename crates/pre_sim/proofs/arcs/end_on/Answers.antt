@@ -1,6 +1,6 @@
 use Rattle.std.proofs.Common.{rules, refl, sym, ◌∙◌, ap, subst, ◌≡◌, ◌+◌, ◌*◌, ◌≤◌, length, [], ◌∷◌, ◌++◌}
-use Rattle.pre_trace.specs.Scenario.{Scenario}
-use Rattle.pre_trace.specs.Rules.{last_four}
+use Rattle.pre_history.specs.Scenario.{Scenario}
+use Rattle.pre_history.specs.Rules.{last_four}
 use Rattle.pre_sim.specs.declared.lanes.Lane.{Lane}
 use Rattle.pre_sim.specs.declared.lanes.Flight.{Flight}
 use Rattle.pre_sim.specs.Parts.{LanePart, scenario_of}

@@ -1,6 +1,6 @@
 use Rattle.std.proofs.Common.{◌≡◌, ◌≤◌, length, rules}
 use Rattle.pre_streams.specs.declared.rows.Row.{Row}
-use Rattle.pre_trace.specs.Scenario.{row}
+use Rattle.pre_history.specs.Scenario.{row}
 use Rattle.pre_sim.specs.Parts.{scenario_of}
 use Rattle.pre_sim.proofs.SentFrames.{octets_put}
 use Rattle.pre_sim.proofs.frames.put_frame.Goals as goal

@@ -2,7 +2,7 @@ use Rattle.std.proofs.Common.{ℕ, ◌≡◌, List, [], ◌∷◌, ◌++◌, ◌
 use Rattle.std.specs.Prelude.{slice_get, slice_index_or}
 use Rattle.std.proofs.lemmas.Option.{get_or_from_slice_get, slice_get-get_or}
 use Rattle.pre_topo.specs.declared.arcs.Arc.{Arc}
-use Rattle.pre_trace.specs.Scenario.{no_arc}
+use Rattle.pre_history.specs.Scenario.{no_arc}
 use Rattle.pre_sim.specs.declared.lanes.Lane.{Lane}
 use Rattle.pre_sim.specs.Lanes.{IsIdle}
 use Rattle.pre_sim.proofs.lanes.idle_lanes.Goals as goal

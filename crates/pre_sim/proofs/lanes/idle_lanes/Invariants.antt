@@ -1,6 +1,6 @@
 use Rattle.std.proofs.Common.{◌≡◌, ℕ, Some, vec_len}
 use Rattle.std.specs.Prelude.{slice_get, slice_index_or}
-use Rattle.pre_trace.specs.Scenario.{no_arc}
+use Rattle.pre_history.specs.Scenario.{no_arc}
 use Rattle.pre_sim.specs.declared.lanes.Lane.{Lane}
 use Rattle.pre_sim.specs.Lanes.{IsIdle}
 use Rattle.pre_sim.proofs.lanes.idle_lanes.Given as goal

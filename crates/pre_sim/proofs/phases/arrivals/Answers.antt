@@ -1,6 +1,6 @@
 use Rattle.std.proofs.Common.{rules, ap, ◌∙◌, ◌≡◌, ◌+◌, ◌++◌, Some, sym, subst, length, []}
 use Rattle.std.specs.Prelude.{slice_get, slice_index_or, set}
-use Rattle.pre_trace.specs.Scenario.{Scenario}
+use Rattle.pre_history.specs.Scenario.{Scenario}
 use Rattle.pre_sim.specs.Parts.{ArrivalPart, ArrivalsPart, LaneFront, count_of, scenario_of}
 use Rattle.pre_sim.specs.Told.{tells_nothing, tells_then}
 use Rattle.pre_sim.proofs.Lists.{found_at}

@@ -1,5 +1,5 @@
 use Rattle.std.proofs.Common.{◌≤◌, ◌+◌, length}
-use Rattle.pre_trace.specs.History.{History}
+use Rattle.pre_history.specs.History.{History}
 use Rattle.pre_sim.specs.Telling.{TellsAll}
 use Rattle.pre_sim.specs.Parts.{ArrivalsPart, scenario_of}
 use Rattle.pre_sim.proofs.phases.arrivals.Given as goal

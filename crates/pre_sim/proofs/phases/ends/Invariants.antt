@@ -1,5 +1,5 @@
 use Rattle.std.proofs.Common.{◌≤◌, []}
-use Rattle.pre_trace.specs.History.{History}
+use Rattle.pre_history.specs.History.{History}
 use Rattle.pre_sim.specs.Telling.{TellsAll}
 use Rattle.pre_sim.specs.Parts.{LanesPart, scenario_of}
 use Rattle.pre_sim.proofs.phases.ends.Given as goal

@@ -1,5 +1,5 @@
 use Rattle.std.proofs.Common.{rules, ◌≡◌, ◌∷◌, []}
-use Rattle.pre_trace.specs.Scenario.{FrameOf}
+use Rattle.pre_history.specs.Scenario.{FrameOf}
 use Rattle.pre_sim.specs.Parts.{ComePart, scenario_of}
 use Rattle.pre_sim.specs.Sends.{ComesFront, comes_to, drops_of, sent_frame}
 use Rattle.pre_sim.proofs.Keeping.{keep_sent}

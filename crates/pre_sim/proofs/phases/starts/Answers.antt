@@ -1,6 +1,6 @@
 use Rattle.std.proofs.Common.{rules, ap, ◌∙◌, ◌≡◌, ◌+◌, ◌*◌, ◌++◌, Some, sym, subst, length, []}
 use Rattle.std.specs.Prelude.{slice_get, slice_index_or}
-use Rattle.pre_trace.specs.Scenario.{Scenario}
+use Rattle.pre_history.specs.Scenario.{Scenario}
 use Rattle.pre_sim.specs.Keeps.{Store}
 use Rattle.pre_sim.specs.Parts.{LanePart, LaneFront, LanesPart, scenario_of}
 use Rattle.pre_sim.specs.Told.{tells_nothing, tells_then}

@@ -1,6 +1,6 @@
 use Rattle.std.proofs.Common.{rules, arith, ap, sym, ◌∙◌, ◌≡◌, ◌+◌, ◌<◌, ◌≤◌, ◌++◌, ◌∷◌, List, [], length, subst, refl}
 use Rattle.pre_script.specs.declared.scripts.SendLine.{SendLine}
-use Rattle.pre_trace.specs.Scenario.{send}
+use Rattle.pre_history.specs.Scenario.{send}
 use Rattle.pre_sim.specs.declared.lanes.Lane.{Lane}
 use Rattle.pre_sim.specs.Parts.{scenario_of}
 use Rattle.pre_sim.specs.Sends.{ComesPart, ComesFront, KeepsSame, sent_frame, sent_frames, drops_of}

@@ -1,6 +1,6 @@
 use Rattle.std.proofs.Common.{◌≡◌, ◌+◌, ◌-◌, ◌≤◌, ◌<◌, ℕ, length, vec_len}
-use Rattle.pre_trace.specs.Scenario.{send}
-use Rattle.pre_trace.specs.History.{History}
+use Rattle.pre_history.specs.Scenario.{send}
+use Rattle.pre_history.specs.History.{History}
 use Rattle.pre_sim.specs.Telling.{TellsAll}
 use Rattle.pre_sim.specs.Reach.{IsWithin}
 use Rattle.pre_sim.specs.Keeps.{IsKept}

@@ -1,5 +1,5 @@
 use Rattle.std.proofs.Common.{rules, refl, true, arith, ◌≤◌, []}
-use Rattle.pre_trace.specs.Scenario.{Scenario}
+use Rattle.pre_history.specs.Scenario.{Scenario}
 use Rattle.pre_sim.specs.declared.ticks.Progress.{Progress}
 use Rattle.pre_sim.specs.Reach.{IsWithin}
 use Rattle.pre_sim.specs.Keeps.{IsKept}

@@ -1,6 +1,6 @@
 use Rattle.std.proofs.Common.{sym, ◌∙◌}
 use Rattle.std.proofs.lemmas.Bool.{false≢true}
-use Rattle.pre_trace.specs.Plain.{plain}
+use Rattle.pre_history.specs.Plain.{plain}
 use Rattle.pre_trace.proofs.Histories.{AreOf-last}
 use Rattle.pre_trace.proofs.watchers.TraceWatcherWatcher.event.Goals as goal
 

@@ -1,0 +1,44 @@
+-- Runs in which each frame goes whole over each arc of its route and arrives as it was sent: what their deliveries say,
+-- and that a frame comes to a ring of each arc once.
+use Rattle.std.specs.Prelude.{ℕ, ◌<◌, ◌≤◌, ◌≡◌, ◌≢◌, false, List, [], length, All, AllPairs, Contains}
+use Rattle.pre_topo.specs.declared.arcs.Mode.TheVariants as mode
+use Rattle.pre_history.specs.Scenario.{Scenario, arc, row, send, FrameOf}
+use Rattle.pre_history.specs.History.{History}
+use Rattle.pre_history.specs.Selected.{what_is}
+use Rattle.pre_history.specs.Queries.{Begins, Entries, Deliveries}
+use Rattle.pre_history.specs.Comings.{Coming, hops}
+
+pub record IsDirect (w : Scenario) : Type 0 where
+  -- each frame has a route, which takes no arc twice
+  pub routes : (f : ℕ) → f < length w.script.sends → 1 ≤ length (hops w f)
+  pub once : (f : ℕ) → f < length w.script.sends → AllPairs (λ a b. a ≢ b) (hops w f)
+  -- a preemptable frame takes arcs that never preempt
+  pub whole : (f : ℕ) → f < length w.script.sends → (row w f).prio < w.net.express_from → All (λ a. (arc w a).mode ≡ mode.Off) (hops w f)
+  -- no mPacket is lost or damaged
+  pub losses : w.script.losses ≡ []
+  pub damages : w.script.damages ≡ []
+  -- frames have 64 to 1522 octets
+  pub sizes : (f : ℕ) → f < length w.script.sends → (64 ≤ (send w f).send.size) × ((send w f).send.size ≤ 1522)
+
+-- Each delivery has the octets of the frame that it names, which was sent by then, and no two deliveries name one frame.
+pub record DeliversOnce (w : Scenario) (h : History) : Type 0 where
+  pub known : All (λ d. d.frame < length w.script.sends) (Deliveries h)
+  pub octets : All (λ d. d.octets ≡ FrameOf w d.frame) (Deliveries h)
+  pub sent : All (λ d. (send w d.frame).send.tick.0 ≤ d.tick) (Deliveries h)
+  pub once : AllPairs (λ d e. d.frame ≢ e.frame) (Deliveries h)
+
+-- These frames of the script come to rings on their routes for the first time.
+pub record ComeOnce (w : Scenario) (past : History) (cs : List Coming) : Type 0 where
+  pub known : All (λ c. c.frame < length w.script.sends) cs
+  pub onroute : All (λ c. Contains (hops w c.frame) c.arc) cs
+  -- none of them began on that arc before, entered one of its rings or was dropped at it
+  pub unbegun : All (λ c. All (λ b. what_is b.what c.frame ≡ false) (Begins past c.arc)) cs
+  pub uncome : All (λ c. (p : ℕ) → All (λ e. e.frame ≢ c.frame) (Entries past c.arc p)) cs
+  -- no two of them are one frame on one arc
+  pub apart : AllPairs (λ c d. c.arc ≡ d.arc → c.frame ≢ d.frame) cs
+
+-- A direct run in which only whole frames of the script are sent.
+pub record IsPlain (w : Scenario) : Type 0 where
+  pub direct : IsDirect w
+  -- no arc negotiates, so neither verifies, responds nor LLDP frames begin
+  pub silent : All (λ a. a.mode ≢ mode.Negotiate) w.net.arcs

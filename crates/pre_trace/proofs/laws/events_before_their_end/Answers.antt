@@ -1,5 +1,0 @@
-use Rattle.pre_trace.proofs.Placing.{placed}
-use Rattle.pre_trace.proofs.laws.events_before_their_end.Goals as goal
-
-pub returns : goal.returns
-returns c = placed
