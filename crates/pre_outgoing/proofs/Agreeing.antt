@@ -90,7 +90,7 @@ module _ (w : Scenario) (past : History) (n a now : ℕ) (settled : Bool) (calls
   on : b.arc ≡ a
   on = every_at (λ (b : Begin). b.arc ≡ a) (Begins past a) (length (Ends past a)) b (begins_arc past a) here
 
-  lldp_length : b.what ≡ what.Lldp → length (WholeOf w past b) ≡ 64
+  pub lldp_length : b.what ≡ what.Lldp → length (WholeOf w past b) ≡ 64
   lldp_length is = ap (λ x. length (whole_of w past b x)) is ∙ sent-length (arc w b.arc).from.0 b.arc (AdvertAt w past b.arc b.tick) (subst (λ n. n < 65536) (sym on) few)
     where
       few : a < 65536

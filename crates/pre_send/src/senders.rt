@@ -47,7 +47,7 @@ impl Sender {
     ghost use Rattle.pre_send.specs.Tasks.{task_size};
     ghost use Rattle.pre_send.specs.Lendings.{Lends, LendsChoice, Gives};
     ghost use Rattle.pre_send.specs.Owned.{frames_of, frames_chosen, frames_done};
-    ghost use Rattle.pre_send.specs.Senders.{Stands, chosen, is_free, is_interrupted, MayBegin, Firsts, Rests, Chooses};
+    ghost use Rattle.pre_send.specs.Senders.{Stands, chosen, is_free, is_interrupted, kind_under_way, MayBegin, Firsts, Rests, Chooses};
 
     /// A sender that has sent nothing, by the ticks for an octet and the link's additional fragment size.
     #[tactic(auto, unfolding(crate::specs::Endings::Holds, crate::specs::Endings::HoldsKept, crate::specs::Owned::frames_of))]
@@ -118,8 +118,10 @@ impl Sender {
     }
 
     /// The kind of the mPacket under way, and the place of its mData in its frame; None exactly where there is none.
+    #[tactic(auto, unfolding(crate::specs::Senders::kind_under_way))]
     pub fn under_way(&self) -> Option<(Kind, u16)>
-        ensures { (cost add_frag : ℕ) (calls : List Call) → Stands self.now cost add_frag calls → IsUnderWayAs cost add_frag calls result }
+        ensures own { result ≡ kind_under_way self.now }
+        ensures exact { (cost add_frag : ℕ) (calls : List Call) → Stands self.now cost add_frag calls → IsUnderWayAs cost add_frag calls result }
     {
         let going = self.going.as_ref()?;
         Some(going.task.kind())
