@@ -8,7 +8,7 @@ ghost use Rattle.pre_send.specs.Answers.{IsUnderWayAs, kept_part};
 ghost use Rattle.pre_send.specs.Endings.{plans_end};
 ghost use Rattle.pre_send.specs.Lendings.{Lends};
 ghost use Rattle.pre_send.specs.Owned.{frames_of, frames_chosen, frames_done};
-ghost use Rattle.pre_send.specs.Senders.{MayBegin, Stands, chosen, is_free, is_interrupted, kind_under_way};
+ghost use Rattle.pre_send.specs.Senders.{IsFreeFrom, MayBegin, Stands, chosen, is_free, is_interrupted, kind_under_way};
 ghost use Rattle.pre_history.specs.Scenario.{Scenario, arc};
 ghost use Rattle.pre_history.specs.History.{Ended, History, PlainEvent};
 ghost use Rattle.pre_history.specs.Legal.{LegalUpTo};
@@ -20,7 +20,7 @@ ghost use Rattle.pre_history.specs.Rules.{HappensIn};
 ghost use Rattle.pre_history.specs.Starts.{Choice as Start, ExpressWaits, Item, StartRule, There, lldp_begins};
 ghost use Rattle.pre_lldp.specs.LldpLayout.{lldp_frame};
 ghost use Rattle.pre_outgoing.specs.Matching.{IsTold, what_of};
-ghost use Rattle.pre_outgoing.specs.Sends.{AreHeld, AreStored, HasBegun, HasEnded, IsLldp, Leaves, Sends, ends_frame, lent_by, next_count};
+ghost use Rattle.pre_outgoing.specs.Sends.{AreHeld, AreStored, HasBegun, HasEnded, IsLldp, Leaves, Sends, continuations, ends_frame, lent_by, next_count};
 
 use pre_base::Tick;
 use pre_history::What;
@@ -145,6 +145,21 @@ impl Outgoing {
         }
     }
 
+    /// The least tick from which on nothing occupies the arc. None exactly where an mPacket is under way.
+    pub fn free_at(&self) -> Option<Tick>
+        ensures { IsFreeFrom self.now.sender result }
+    {
+        self.sender.free_at()
+    }
+
+    /// How many continuations began, which an arc's transmit counter tells (IEEE 802.3, 30.14.1.13).
+    pub fn continued(&self) -> u64
+        ensures own { result ≡ self.now.continued }
+        ensures exact { (w : Scenario) (h : History) (a n : ℕ) (settled : Bool) → Sends w h a n settled self.now → result ≡ continuations h a }
+    {
+        self.continued
+    }
+
     /// The planned end of the mPacket under way, None exactly where there is none.
     pub fn ends_at(&self) -> Option<Tick>
         ensures { option_map (λ tick. tick.0) result ≡ plans_end self.now.sender }
@@ -191,6 +206,8 @@ impl Outgoing {
             → AreStored w store.now (frames_of self.old.sender) → HappensIn w past now.0 (Phase.ends a) (PlainEvent.ended e ∷ [])
             → HasEnded w past now.0 a e result self.new }
         ensures frames { frames_of self.old.sender ≡ frames_done result.done ++ frames_of self.new.sender }
+        ensures least { 64 ≤ result.size }
+        ensures most { result.size ≤ 1522 }
     {
         let what = self.carried;
         let Sent { kind, size, done, .. } = self.sender.finish(now, store);

@@ -47,7 +47,7 @@ impl Sender {
     ghost use Rattle.pre_send.specs.Tasks.{task_size};
     ghost use Rattle.pre_send.specs.Lendings.{Lends, LendsChoice, Gives};
     ghost use Rattle.pre_send.specs.Owned.{frames_of, frames_chosen, frames_done};
-    ghost use Rattle.pre_send.specs.Senders.{Stands, chosen, is_free, is_interrupted, kind_under_way, MayBegin, Firsts, Rests, Chooses};
+    ghost use Rattle.pre_send.specs.Senders.{Stands, chosen, is_free, IsFreeFrom, is_interrupted, kind_under_way, MayBegin, Firsts, Rests, Chooses};
 
     /// A sender that has sent nothing, by the ticks for an octet and the link's additional fragment size.
     #[tactic(auto, unfolding(crate::specs::Endings::Holds, crate::specs::Endings::HoldsKept, crate::specs::Owned::frames_of))]
@@ -85,8 +85,10 @@ impl Sender {
     }
 
     /// The least tick from which on nothing occupies the arc. None exactly where an mPacket is under way.
+    #[tactic(auto, unfolding(crate::specs::Senders::is_free, crate::specs::Endings::plans_end))]
     pub fn free_at(&self) -> Option<Tick>
-        ensures { (cost add_frag : ℕ) (calls : List Call) → Stands self.now cost add_frag calls → IsFreeAt cost (told_by calls) result }
+        ensures own { IsFreeFrom self.now result }
+        ensures exact { (cost add_frag : ℕ) (calls : List Call) → Stands self.now cost add_frag calls → IsFreeAt cost (told_by calls) result }
     {
         if self.going.is_some() {
             return None;
@@ -194,6 +196,8 @@ impl Sender {
         ensures done { IfSome result.done (λ f. HoldsFrame store.now f) }
         ensures sent { (cost add_frag : ℕ) (calls : List Call) → Stands self.old cost add_frag calls → Ends cost add_frag (calls ++ ended now.0 store.now ∷ []) result }
         ensures frames { frames_of self.old ≡ frames_done result.done ++ frames_of self.new }
+        ensures least { 64 ≤ result.size }
+        ensures most { result.size ≤ 1522 }
     {
         let Some(going) = self.going.take() else {
             unreachable!()
@@ -208,6 +212,7 @@ impl Sender {
         requires holds { HoldsTask task store.now }
         requires none { self.old.going ≡ None }
         ensures ends { EndsTask task self.old self.new store.now result }
+        ensures size { result.size ≡ task_size task }
         ensures done { IfSome result.done (λ f. HoldsFrame store.now f) }
     {
         match task {
@@ -273,6 +278,7 @@ impl Sender {
         requires { MayBegin self.old choice }
         ensures chooses { Chooses choice self.old self.new result }
         ensures size { 64 ≤ task_size result }
+        ensures size_most { task_size result ≤ 1522 }
     {
         match choice {
             Choice::Express(frame) => Task::Frame(frame),
@@ -291,6 +297,7 @@ impl Sender {
         requires most { frame.size ≤ 1522 }
         ensures first { Firsts self.old self.new frame result }
         ensures size { 64 ≤ task_size result }
+        ensures size_most { task_size result ≤ 1522 }
     {
         let frame_count = self.frame_count;
         self.frame_count = (frame_count + 1) % 4;
@@ -310,6 +317,7 @@ impl Sender {
         requires { is_interrupted self.old ≡ true }
         ensures rest { Rests self.old self.new result }
         ensures size { 64 ≤ task_size result }
+        ensures size_most { task_size result ≤ 1522 }
     {
         match self.kept.take() {
             Some(piece) => Task::Fragment(piece),
