@@ -23,7 +23,8 @@ use Rattle.pre_history.proofs.Turns.{tick_lt}
 use Rattle.pre_history.proofs.Free.{begins_before}
 use Rattle.pre_history.proofs.Steady.{costs}
 use Rattle.pre_history.proofs.InOrder.{steady}
-use Rattle.pre_outgoing.specs.Matching.{IsStored, Fits, EndsFit, Agree, IsKnown, WaitsAgree, Matches, LeavesOver, IsPlanned, OtherIs}
+use Rattle.pre_outgoing.specs.Matching.{IsStored, Fits, EndsFit, Agree, IsKnown, WaitsAgree, Matches}
+use Rattle.pre_outgoing.proofs.Readings.{LeavesOver, IsPlanned, OtherIs}
 use Rattle.pre_outgoing.proofs.Pairs.{pairs}
 use Rattle.pre_outgoing.proofs.Runs.{IsRun, RunAfter, run_of, run_after}
 use Rattle.pre_outgoing.proofs.Gaps.{made, not_occupied, is_free}

@@ -14,7 +14,8 @@ use Rattle.pre_history.specs.declared.events.What.TheVariants as what
 use Rattle.pre_history.specs.Scenario.{Scenario, FrameOf}
 use Rattle.pre_history.specs.History.{History, Begin}
 use Rattle.pre_history.specs.Octets.{BareOctets, WholeOf, whole_of}
-use Rattle.pre_outgoing.specs.Matching.{IsSized, IsStored, Fits, what_of, what_of_frame, OtherIs}
+use Rattle.pre_outgoing.specs.Matching.{IsSized, IsStored, Fits, what_of, what_of_frame}
+use Rattle.pre_outgoing.proofs.Readings.{OtherIs}
 use Rattle.pre_outgoing.specs.Sends.{HandsBack, ends_frame}
 use Rattle.pre_outgoing.proofs.Sizes.{bare_length}
 

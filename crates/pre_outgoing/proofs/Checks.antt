@@ -15,7 +15,8 @@ use Rattle.pre_history.specs.Scenario.{Scenario, FrameOf}
 use Rattle.pre_history.specs.History.{History, Begin}
 use Rattle.pre_history.specs.Octets.{BareOctets, WholeOf, whole_of}
 use Rattle.pre_history.specs.Rules.{CheckOf, last_four}
-use Rattle.pre_outgoing.specs.Matching.{IsSized, IsStored, Fits, what_of, what_of_frame, OtherIs}
+use Rattle.pre_outgoing.specs.Matching.{IsSized, IsStored, Fits, what_of, what_of_frame}
+use Rattle.pre_outgoing.proofs.Readings.{OtherIs}
 use Rattle.pre_outgoing.proofs.Sizes.{bare_length}
 
 same_test : (m n : ℕ) → m ≡ n → (m == n) ≡ true

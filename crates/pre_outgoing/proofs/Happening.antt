@@ -25,7 +25,8 @@ use Rattle.pre_history.proofs.Lists.{at_last, every_at}
 use Rattle.pre_history.proofs.Placing.{begins_arc}
 use Rattle.pre_history.proofs.InOrder.{steady}
 use Rattle.pre_history.proofs.Making.{ends_one, ends_none}
-use Rattle.pre_outgoing.specs.Matching.{IsStored, EndsFit, Agree, Matches, LeavesOver, rest_as, OtherIs}
+use Rattle.pre_outgoing.specs.Matching.{IsStored, EndsFit, Agree, Matches}
+use Rattle.pre_outgoing.proofs.Readings.{LeavesOver, rest_as, OtherIs}
 use Rattle.pre_outgoing.proofs.Agreeing.{same_packets, sizes, checks, interrupts}
 
 module _ (w : Scenario) (past : History) (t a : ℕ) (settled : Bool) (calls : List Call) (a_lt : a < length w.net.arcs)

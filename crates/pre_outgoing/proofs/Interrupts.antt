@@ -17,7 +17,8 @@ use Rattle.pre_history.specs.Selected.{frame_number, frame_count}
 use Rattle.pre_history.specs.Queries.{Packet, Rest, packet, Packets, Begins, Ends, LastRun, joined_data, last_check, rest_of, Interrupted}
 use Rattle.pre_history.specs.Ordered.{IsOrdered, HaveChecks}
 use Rattle.pre_history.proofs.Lists.{at_front, at_last, every_at, every_filter}
-use Rattle.pre_outgoing.specs.Matching.{Agree, rest_as, LeavesOver}
+use Rattle.pre_outgoing.specs.Matching.{Agree}
+use Rattle.pre_outgoing.proofs.Readings.{rest_as, LeavesOver}
 use Rattle.pre_outgoing.proofs.Pairs.{pairs, every_passes, every_last}
 use Rattle.pre_outgoing.proofs.Runs.{starts, fragments, run_of, RunAfter, run_after}
 use Rattle.pre_outgoing.proofs.Gaps.{all_ended, all_over, made, each_packet}

@@ -38,7 +38,8 @@ use Rattle.pre_history.proofs.Lists.{at_last, within}
 use Rattle.pre_history.proofs.Sizes.{end_one}
 use Rattle.pre_outgoing.specs.declared.outgoing.Finished.{Finished}
 use Rattle.pre_outgoing.specs.declared.outgoing.Outgoing.{Outgoing}
-use Rattle.pre_outgoing.specs.Matching.{Matches, IsStored, Fits, EndsFit, Agree, OtherIs, what_of}
+use Rattle.pre_outgoing.specs.Matching.{Matches, IsStored, Fits, EndsFit, Agree, what_of}
+use Rattle.pre_outgoing.proofs.Readings.{OtherIs}
 use Rattle.pre_outgoing.specs.Sends.{AreStored, HandsBack, HasEnded, IsNewest, Leaves, Sends, end_of, ends_frame, lent_by}
 use Rattle.pre_outgoing.proofs.Agreeing.{same_packets, newest, lldp_length}
 use Rattle.pre_outgoing.proofs.Carried.{right_data, same_kind, is_last}

@@ -14,7 +14,8 @@ use Rattle.pre_history.specs.Scenario.{Scenario}
 use Rattle.pre_history.specs.History.{History}
 use Rattle.pre_history.specs.Queries.{Rest, Interrupted, Waiting}
 use Rattle.pre_history.specs.Starts.{Item, Choice, place, whole_frame, rest_begins, without_octets, lldp_begins, ExpressWaits, IsFront, starts_before, There}
-use Rattle.pre_outgoing.specs.Matching.{rest_as, LeavesOver, Picks, IsTold}
+use Rattle.pre_outgoing.specs.Matching.{IsTold}
+use Rattle.pre_outgoing.proofs.Readings.{rest_as, LeavesOver, Picks}
 
 less_or_same : (i j : ℕ) → i < suc j → (i < j) ⊎ (i ≡ j)
 less_or_same i j lt = grind arith

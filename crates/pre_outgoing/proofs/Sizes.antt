@@ -19,7 +19,8 @@ use Rattle.pre_history.specs.History.{History, Begin}
 use Rattle.pre_history.specs.Selected.{frame_number}
 use Rattle.pre_history.specs.Octets.{BareOctets, WholeOf, whole_of}
 use Rattle.pre_history.specs.Starts.{ExpressWaits, begun, SizeOf}
-use Rattle.pre_outgoing.specs.Matching.{IsSized, Fits, what_of, what_of_frame, IsPlanned}
+use Rattle.pre_outgoing.specs.Matching.{IsSized, Fits, what_of, what_of_frame}
+use Rattle.pre_outgoing.proofs.Readings.{IsPlanned}
 use Rattle.pre_outgoing.proofs.Waitings.{cut_between}
 
 pub bare_length : length BareOctets ≡ 64

@@ -24,7 +24,8 @@ use Rattle.pre_history.proofs.Lists.{every_selected, every_at}
 use Rattle.pre_history.proofs.Later.{waiting_later}
 use Rattle.pre_history.proofs.Placing.{placed}
 use Rattle.pre_history.proofs.Turns.{tick_le}
-use Rattle.pre_outgoing.specs.Matching.{what_of_frame, IsSized, IsStored, Fits, EndsFit, Agree, IsKnown, WaitsAgree, Matches, Picks}
+use Rattle.pre_outgoing.specs.Matching.{what_of_frame, IsSized, IsStored, Fits, EndsFit, Agree, IsKnown, WaitsAgree, Matches}
+use Rattle.pre_outgoing.proofs.Readings.{Picks}
 use Rattle.pre_outgoing.proofs.Waitings.{waited_before}
 use Rattle.pre_outgoing.proofs.Gaps.{all_ended}
 use Rattle.pre_outgoing.proofs.Agreeing.{same_packets}
@@ -278,13 +279,3 @@ beginning w past t a now ord settled calls packets ch c a_lt legal m sending fre
   where
     is_eq : (m : ℕ) → (m == m) ≡ true
     is_eq m = grind (arith, nat_tests)
-
--- ---- a tick at which no fragment is under way
-
-pub calm : (w : Scenario) (past : History) (t a : ℕ) (calls : List Call) → Matches w past a t false calls
-    → ((p : Sending) (older : List Sending) → IsSending (arc w a).cost (arc w a).add_frag calls (p ∷ older) → p.told.end ≡ None → is_part p.told.chosen ≡ false) → Matches w past a (t + 1) true calls
-calm w past t a calls m none = record { packets = m.packets; sending = m.sending; agree = m.agree; waits = go m.packets m.sending }
-  where
-    go : (packets : List Sending) → IsSending (arc w a).cost (arc w a).add_frag calls packets → WaitsAgree w past a (t + 1) true packets
-    go [] sending = tt
-    go (p ∷ older) sending = λ under_way part. absurd (cc (none p older sending under_way, part))

@@ -11,7 +11,6 @@ use Rattle.pre_send.specs.declared.choices.Choice.{Choice}
 use Rattle.pre_send.specs.declared.choices.Choice.TheVariants as choice
 use Rattle.pre_send.specs.Calls.{Call}
 use Rattle.pre_send.specs.Endings.{plans_end}
-use Rattle.pre_send.specs.Owned.{frames_of}
 use Rattle.pre_send.specs.Senders.{Stands}
 use Rattle.pre_history.specs.declared.events.What.{What}
 use Rattle.pre_history.specs.declared.events.What.TheVariants as what
@@ -26,10 +25,6 @@ use Rattle.pre_outgoing.specs.declared.outgoing.Begun.{Begun}
 use Rattle.pre_outgoing.specs.declared.outgoing.Finished.{Finished}
 use Rattle.pre_outgoing.specs.declared.outgoing.Outgoing.{Outgoing}
 use Rattle.pre_outgoing.specs.Matching.{Matches}
-
--- the frames that it has: the one under way, and the one that is interrupted
-abbrev pub frames_in : Outgoing → List FrameRef
-frames_in o = frames_of o.sender
 
 -- the slot of each holds the script's octets of the frame
 abbrev pub AreStored : Scenario → List (Option (List ℕ)) → List FrameRef → Type 0
@@ -91,16 +86,16 @@ begin_of past t a c = record { tick = t; arc = a; ord = length (Begins past a); 
 
 -- whether the octets of an mPacket are the last of what it carries: those of a user frame where it is handed back
 abbrev pub ends_frame : What → Option FrameRef → Bool
-ends_frame (what.Frame f) done = is_some done
-ends_frame what.Lldp done = true
-ends_frame what.Nothing done = true
+ends_frame (what.Frame f) back = is_some back
+ends_frame what.Lldp back = true
+ends_frame what.Nothing back = true
 
 -- A user frame is handed back with its last octet, and else none is.
 abbrev pub HandsBack : What → Bool → Option FrameRef → Type 0
 HandsBack (what.Frame f) is_last None = is_last ≡ false
 HandsBack (what.Frame f) is_last (Some frame) = (frame.frame ≡ f) × (is_last ≡ true)
-HandsBack what.Lldp is_last done = (done ≡ None) × (is_last ≡ true)
-HandsBack what.Nothing is_last done = (done ≡ None) × (is_last ≡ true)
+HandsBack what.Lldp is_last back = (back ≡ None) × (is_last ≡ true)
+HandsBack what.Nothing is_last back = (back ≡ None) × (is_last ≡ true)
 
 module _ (w : Scenario) (past : History) (t a : ℕ) where
   -- this began; and its planned end is later
