@@ -71,37 +71,47 @@ fn send(
     Some((begun, finished))
 }
 
-// A frame is interrupted, a verify goes between its fragments, and an LLDP frame comes after them.
+fn is_begun(begun: &Begun, ord: u64, kind: Kind, what: What, from: u16) -> bool {
+    begun.ord == ord && begun.kind == kind && begun.what == what && begun.from == from
+}
+
+// Whether an mPacket of 64 octets has ended, and handed back a frame of 124 octets where it is the last of it.
+fn is_finished(finished: &Finished, ord: u64, is_last: bool, hands_back: bool) -> bool {
+    finished.ord == ord
+        && finished.size == 64
+        && finished.is_last == is_last
+        && finished.done.is_some() == hands_back
+}
+
+// A frame is interrupted after 60 octets, and a verify goes between its fragments.
 #[test]
-fn fragments_and_what_comes_between(rt: HostRuntime) -> Result<(), Fail> {
+fn a_verify_between_fragments(rt: HostRuntime) -> Result<(), Fail> {
     let mut store = FrameStore::make(rt.alloc(), 1)?;
     let frame = frame_in(&mut store, &[7; 124]).ok_or("no slot")?;
+    let what = What::Frame(frame.frame);
     let mut out = Outgoing::idle(1, 0);
     let (begun, finished) = send(&mut out, &store, 0, Choice::First(frame), Some(1)).ok_or("not sent")?;
-    assert_eq!(rt; begun.ord, 0);
-    assert_eq!(rt; begun.kind, Kind::Start(0));
-    assert_eq!(rt; begun.what, What::Frame(FrameNo(5)));
-    assert_eq!(rt; finished.size, 64);
-    assert!(rt; !finished.is_last && finished.done.is_none());
-    assert!(rt; out.is_interrupted());
-    assert_eq!(rt; out.free_at(), Some(Tick(84)));
+    assert!(rt; is_begun(&begun, 0, Kind::Start(0), what, 0));
+    assert!(rt; is_finished(&finished, 0, false, false));
     let (begun, finished) = send(&mut out, &store, 84, Choice::Verify, None).ok_or("not sent")?;
-    assert_eq!(rt; begun.kind, Kind::Verify);
-    assert_eq!(rt; begun.what, What::Nothing);
-    assert_eq!(rt; finished.ord, 1);
-    assert!(rt; finished.is_last && finished.done.is_none());
-    assert_eq!(rt; out.continued(), 0);
+    assert!(rt; is_begun(&begun, 1, Kind::Verify, What::Nothing, 0));
+    assert!(rt; is_finished(&finished, 1, true, false));
     let (begun, finished) = send(&mut out, &store, 168, Choice::Rest, None).ok_or("not sent")?;
-    assert_eq!(rt; begun.kind, Kind::Continue(0, 0));
-    assert_eq!(rt; begun.from, 60);
-    assert_eq!(rt; finished.what, What::Frame(FrameNo(5)));
-    assert!(rt; finished.is_last);
-    assert_eq!(rt; finished.done.map(|frame| frame.size), Some(124));
+    assert!(rt; is_begun(&begun, 2, Kind::Continue(0, 0), what, 60));
+    assert!(rt; is_finished(&finished, 2, true, true));
     assert_eq!(rt; out.continued(), 1);
-    assert!(rt; out.free(Tick(252)));
-    let begun = out.begin_lldp(Tick(252), [9; 64]);
-    assert_eq!(rt; begun.ord, 3);
-    assert!(rt; out.ends(Tick(324)));
+    Ok(())
+}
+
+// An LLDP frame is lent as it was handed in, with its last four octets as its check.
+#[test]
+fn an_lldp_frame(rt: HostRuntime) -> Result<(), Fail> {
+    let store = FrameStore::make(rt.alloc(), 1)?;
+    let mut out = Outgoing::idle(1, 0);
+    assert!(rt; out.free(Tick(5)));
+    let begun = out.begin_lldp(Tick(5), [9; 64]);
+    assert!(rt; is_begun(&begun, 0, Kind::Express, What::Lldp, 0));
+    assert!(rt; out.ends(Tick(77)));
     let (kind, mdata, check) = out.packet(&store, &[0; 60]);
     assert_eq!(rt; kind, Kind::Express);
     assert_eq!(rt; mdata, [9; 60].as_slice());
