@@ -1,9 +1,8 @@
 -- The octets that a sender gives an mPacket are those of the history, and when they are its frame's last.
-use Rattle.std.proofs.Common.{ℕ, ◌≡◌, ◌≢◌, ◌⊎◌, ◌==◌, ◌+◌, ◌-◌, ◌≤◌, Bool, true, false, List, [], ◌++◌, length, take, drop, refl, sym, ◌∙◌, ap, ap₂, inl, inr, arith, subst, Option, Some, None}
+use Rattle.std.proofs.Common.{ℕ, ◌≡◌, ◌≢◌, ◌⊎◌, ◌==◌, ◌+◌, ◌-◌, Bool, true, false, List, length, take, drop, refl, sym, ◌∙◌, ap, ap₂, inl, inr, arith, subst, Option, Some, None}
 use Rattle.std.specs.Prelude.{if◌then◌else◌, is_some, ◌↔◌, IsTrue}
 use Rattle.std.proofs.lemmas.Bool.Decides.{eqb_tells}
 use Rattle.pre_rings.specs.declared.slots.FrameRef.{FrameRef}
-use Rattle.pre_rings.specs.Stores.{HoldsAt}
 use Rattle.pre_send.specs.Calls.{Chosen, express, whole, first, rest, verify, respond, lldp}
 use Rattle.pre_send.specs.Sendings.{Sending, Part, held, octets_at, interrupted, Follows}
 use Rattle.pre_send.specs.Endings.{done_of, done_by, done_rest}

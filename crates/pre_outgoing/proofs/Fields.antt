@@ -16,7 +16,6 @@ use Rattle.pre_send.specs.Endings.{HoldsTask, HoldsGoing, Holds, plans_end}
 use Rattle.pre_send.specs.Frames.{frame_of_part, frame_by}
 use Rattle.pre_send.specs.Lendings.{LendsTask, LendsGoing, Lends}
 use Rattle.pre_send.specs.Owned.{frames_of_task, frames_going, frames_kept, frames_of}
-use Rattle.pre_send.specs.Plans.{piece_kind}
 use Rattle.pre_send.specs.Senders.{Does, IsAt, Stands, is_free_with, is_free, kind_under_way}
 use Rattle.pre_send.specs.Tasks.{task_kind, task_size}
 use Rattle.pre_send.proofs.OneSending.{one_list}

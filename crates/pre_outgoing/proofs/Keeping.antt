@@ -1,5 +1,5 @@
 -- What stays of the relation where an arc's mPackets stay.
-use Rattle.std.proofs.Common.{ℕ, ◌≡◌, ◌+◌, ◌<◌, ◌≤◌, Bool, true, false, List, [], ◌∷◌, ◌++◌, length, refl, sym, ◌∙◌, ap, ap₂, subst, arith, Option, Some, None}
+use Rattle.std.proofs.Common.{ℕ, ◌≡◌, ◌<◌, ◌≤◌, Bool, true, false, List, [], ◌∷◌, ◌++◌, length, refl, sym, ◌∙◌, ap, ap₂, subst, arith}
 use Rattle.std.specs.Prelude.{count_by}
 use Rattle.pre_mpacket.specs.Arrivals.{is_continue}
 use Rattle.pre_lldp.specs.LldpLayout.{lldp_frame}
@@ -18,7 +18,7 @@ use Rattle.pre_history.proofs.Placing.{begins_arc}
 use Rattle.std.specs.Prelude.{slice_get}
 use Rattle.pre_outgoing.specs.declared.outgoing.Outgoing.{Outgoing}
 use Rattle.pre_outgoing.specs.Matching.{WaitsAgree, Matches}
-use Rattle.pre_outgoing.specs.Sends.{IsNewest, Carries, Sends}
+use Rattle.pre_outgoing.specs.Sends.{IsNewest, Sends}
 use Rattle.pre_outgoing.proofs.Stepping.{others, entered}
 
 -- what an mPacket carries, where it is told alike whether its arc was active when it began

@@ -1,29 +1,25 @@
 -- The mPacket that ends at a tick, by the answers of its sending end.
-use Rattle.std.proofs.Common.{ℕ, suc, ◌≡◌, ◌+◌, ◌-◌, ◌*◌, ◌<◌, ◌≤◌, ◌==◌, Bool, true, List, [], ◌∷◌, ◌++◌, length, take, drop, refl, sym, ◌∙◌, ap, ap₂, arith, inl, inr, subst, Option, Some, None}
+use Rattle.std.proofs.Common.{ℕ, ◌≡◌, ◌+◌, ◌-◌, ◌<◌, ◌==◌, Bool, true, List, [], ◌∷◌, ◌++◌, length, take, drop, refl, sym, ◌∙◌, ap, ap₂, arith, subst, Option, Some, None}
 use Rattle.std.specs.Prelude.{slice_get, count_by, IsTrue, ◌↔◌}
 use Rattle.std.proofs.lemmas.Bool.Decides.{nat_tests}
 use Rattle.std.proofs.lemmas.List.{length-append, append-nil}
 use Rattle.std.proofs.lemmas.List.Elements.{filter_map-append}
 use Rattle.std.proofs.lemmas.List.Sums.{fold-append}
-use Rattle.pre_base.specs.declared.numbers.Tick.{Tick}
 use Rattle.pre_mpacket.specs.Arrivals.{is_continue}
 use Rattle.pre_mpacket.specs.Spelling.{PlainPacket, head_of}
 use Rattle.pre_mpacket.specs.declared.packets.Kind.{Kind}
 use Rattle.pre_send.specs.declared.choices.Sent.{Sent}
-use Rattle.pre_send.specs.declared.senders.Sender.{Sender}
-use Rattle.pre_send.specs.Calls.{Call, Chosen, express, whole, first, rest, verify, respond, lldp, ended, Told, tells}
-use Rattle.pre_send.specs.Sendings.{Sending, Part, interrupted, IsSending, Follows}
+use Rattle.pre_send.specs.Calls.{Chosen, express, whole, first, rest, verify, respond, lldp, ended, Told, tells}
+use Rattle.pre_send.specs.Sendings.{Sending, Part, interrupted, IsSending}
 use Rattle.pre_send.specs.Answers.{PlannedEnd}
-use Rattle.pre_send.specs.Endings.{Ends, plans_end, done_by, done_of, done_rest}
+use Rattle.pre_send.specs.Endings.{Ends, plans_end, done_by}
 use Rattle.pre_send.specs.Frames.{frame_by}
-use Rattle.pre_send.specs.Lendings.{Gives}
 use Rattle.pre_send.specs.Owned.{frames_of}
 use Rattle.pre_send.specs.Packets.{packet_after}
 use Rattle.pre_send.specs.Senders.{Stands, kind_under_way}
 use Rattle.pre_send.proofs.Ending.{with_end, follows_still}
 use Rattle.pre_send.proofs.OneSending.{one_list}
 use Rattle.pre_history.specs.declared.events.What.{What}
-use Rattle.pre_history.specs.declared.events.What.TheVariants as what
 use Rattle.pre_history.specs.Scenario.{Scenario, arc}
 use Rattle.pre_history.specs.Moments.{Phase}
 use Rattle.pre_history.specs.History.{PlainEvent, History, Begin, Ended}
@@ -40,7 +36,7 @@ use Rattle.pre_outgoing.specs.declared.outgoing.Finished.{Finished}
 use Rattle.pre_outgoing.specs.declared.outgoing.Outgoing.{Outgoing}
 use Rattle.pre_outgoing.specs.Matching.{Matches, IsStored, Fits, EndsFit, Agree, what_of}
 use Rattle.pre_outgoing.proofs.Readings.{OtherIs}
-use Rattle.pre_outgoing.specs.Sends.{AreStored, HandsBack, HasEnded, IsNewest, Leaves, Sends, end_of, ends_frame, lent_by}
+use Rattle.pre_outgoing.specs.Sends.{AreStored, HandsBack, HasEnded, IsNewest, Leaves, Sends, ends_frame, lent_by}
 use Rattle.pre_outgoing.proofs.Agreeing.{same_packets, newest, lldp_length}
 use Rattle.pre_outgoing.proofs.Carried.{right_data, same_kind, is_last}
 use Rattle.pre_outgoing.proofs.Fields.{planned_at, lends_advert, stored_going, tick_of}

@@ -1,10 +1,8 @@
 -- What a tick told leaves of the relation.
-use Rattle.std.proofs.Common.{ℕ, ◌≡◌, ◌+◌, ◌*◌, ◌<◌, ◌≤◌, Bool, true, false, List, [], ◌∷◌, ◌++◌, length, refl, sym, ◌∙◌, ap, subst, arith, Option, Some, None}
-use Rattle.std.specs.Bool.{Decides}
-use Rattle.std.specs.Prelude.{IsSome, option_map, map}
-use Rattle.std.proofs.lemmas.List.Sums.{fold-append}
+use Rattle.std.proofs.Common.{ℕ, ◌≡◌, ◌+◌, ◌*◌, ◌<◌, ◌≤◌, Bool, true, false, List, [], ◌∷◌, ◌++◌, length, refl, sym, subst, arith, Option, Some, None}
+use Rattle.std.specs.Prelude.{IsSome}
 use Rattle.pre_send.specs.declared.senders.Sender.{Sender}
-use Rattle.pre_send.specs.Calls.{Call, Told, waited, tells}
+use Rattle.pre_send.specs.Calls.{waited}
 use Rattle.pre_send.specs.Sendings.{Sending, IsSending}
 use Rattle.pre_send.specs.Endings.{plans_end}
 use Rattle.pre_send.specs.Senders.{Stands}

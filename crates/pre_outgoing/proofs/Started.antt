@@ -1,25 +1,24 @@
 -- The mPacket that begins at a tick, by the answers of its sending end.
-use Rattle.std.proofs.Common.{ℕ, zero, suc, ◌≡◌, ◌==◌, ◌+◌, ◌-◌, ◌*◌, ◌^◌, ◌<◌, ◌≤◌, Bool, true, false, List, [], ◌∷◌, ◌++◌, length, refl, sym, ◌∙◌, ap, ap₂, arith, subst, Option, Some, None, map, filter_map}
-use Rattle.std.specs.Prelude.{slice_get, count_by, cond, min, unwrap_or}
+use Rattle.std.proofs.Common.{ℕ, zero, suc, ◌≡◌, ◌==◌, ◌+◌, ◌*◌, ◌^◌, ◌<◌, ◌≤◌, Bool, true, false, List, [], ◌∷◌, ◌++◌, length, refl, sym, ◌∙◌, ap, ap₂, arith, subst, Option, Some, None, filter_map}
+use Rattle.std.specs.Prelude.{slice_get, count_by, cond, unwrap_or}
 use Rattle.std.proofs.lemmas.Bool.Decides.{nat_tests}
 use Rattle.std.proofs.lemmas.List.{length-append, append-nil}
 use Rattle.std.proofs.lemmas.List.Elements.{filter_map-append}
-use Rattle.std.proofs.lemmas.List.Sums.{sum_by-append, count_by-le-length, fold-append}
+use Rattle.std.proofs.lemmas.List.Sums.{sum_by-append, count_by-le-length}
 use Rattle.pre_mpacket.specs.Arrivals.{is_continue}
 use Rattle.pre_lldp.specs.LldpLayout.{lldp_frame}
 use Rattle.pre_send.specs.declared.choices.Choice.{Choice}
 use Rattle.pre_send.specs.declared.choices.Choice.TheVariants as choice
-use Rattle.pre_send.specs.Calls.{Call, Chosen, express, whole, first, rest, verify, respond, lldp, begun}
+use Rattle.pre_send.specs.Calls.{Chosen, express, whole, first, rest, verify, respond, lldp, begun}
 use Rattle.pre_send.specs.Sendings.{Sending, Part, interrupted, IsSending, IsFree}
 use Rattle.pre_send.specs.Answers.{NewestIs, IsUnderWayAs, kept_part}
-use Rattle.pre_send.specs.Endings.{plans_end}
 use Rattle.pre_send.specs.Senders.{Stands, chosen}
 use Rattle.pre_history.specs.declared.events.What.TheVariants as what
 use Rattle.pre_history.specs.Scenario.{Scenario, arc, last}
-use Rattle.pre_history.specs.History.{PlainEvent, History, Begin, Ended}
-use Rattle.pre_history.specs.Selected.{active_on, begin_on, ended_on}
+use Rattle.pre_history.specs.History.{PlainEvent, History, Begin}
+use Rattle.pre_history.specs.Selected.{active_on, begin_on}
 use Rattle.pre_history.specs.Queries.{Begins, Ends}
-use Rattle.pre_history.specs.Octets.{AdvertAt, ToldActive, WholeOf, whole_of}
+use Rattle.pre_history.specs.Octets.{AdvertAt, ToldActive, whole_of}
 use Rattle.pre_history.specs.Ordered.{IsOrdered}
 use Rattle.pre_history.specs.Starts.{Choice as Start, StartRule}
 use Rattle.pre_history.specs.Legal.{LegalUpTo}
@@ -30,7 +29,7 @@ use Rattle.pre_history.proofs.Steady.{costs}
 use Rattle.pre_outgoing.specs.declared.outgoing.Begun.{Begun}
 use Rattle.pre_outgoing.specs.declared.outgoing.Outgoing.{Outgoing}
 use Rattle.pre_outgoing.specs.Matching.{Matches, Fits, EndsFit, Agree, IsTold, what_of}
-use Rattle.pre_outgoing.specs.Sends.{Carries, HasBegun, IsLldp, IsNewest, Sends, begin_of, continuations, next_count}
+use Rattle.pre_outgoing.specs.Sends.{Carries, HasBegun, IsLldp, IsNewest, Sends, begin_of, next_count}
 use Rattle.pre_outgoing.proofs.Agreeing.{begun_early, same_packets}
 use Rattle.pre_outgoing.proofs.Ahead.{begun_ahead}
 use Rattle.pre_outgoing.proofs.Beginning.{begins, free_then}

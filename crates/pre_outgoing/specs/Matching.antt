@@ -1,5 +1,5 @@
 -- What ties a history's mPackets of an arc to the calls of the arc's sender.
-use Rattle.std.specs.Prelude.{◌≡◌, ◌↔◌, ◌+◌, ◌*◌, ◌%◌, ◌<◌, ℕ, Bool, true, false, List, [], ◌∷◌, ◌++◌, length, Option, Some, None}
+use Rattle.std.specs.Prelude.{◌≡◌, ◌↔◌, ◌<◌, ℕ, Bool, true, false, List, [], ◌∷◌, ◌++◌, length, Option, Some, None}
 use Rattle.pre_rings.specs.declared.slots.FrameRef.{FrameRef}
 use Rattle.pre_rings.specs.Stores.{HoldsAt}
 use Rattle.pre_send.specs.Calls.{Chosen, express, whole, first, rest, verify, respond, lldp, Call, End}
@@ -10,10 +10,10 @@ use Rattle.pre_history.specs.declared.events.What.{What}
 use Rattle.pre_history.specs.declared.events.What.TheVariants as what
 use Rattle.pre_history.specs.Scenario.{Scenario, arc, FrameOf}
 use Rattle.pre_history.specs.History.{Begin, Ended, History}
-use Rattle.pre_history.specs.Queries.{Rest, Begins, Ends, Interrupted}
+use Rattle.pre_history.specs.Queries.{Begins, Ends}
 use Rattle.pre_mpacket.specs.declared.packets.Kind.TheVariants as kind
 use Rattle.pre_mpacket.specs.Arrivals.{is_start, is_continue}
-use Rattle.pre_history.specs.Starts.{Choice, whole_frame, rest_begins, without_octets, lldp_begins, ExpressWaits}
+use Rattle.pre_history.specs.Starts.{Choice, ExpressWaits}
 
 -- what the octets of an mPacket are, by its choice and the frame that was interrupted before it
 abbrev pub what_of_frame : Option FrameRef → What

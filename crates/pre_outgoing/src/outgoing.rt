@@ -210,7 +210,12 @@ impl Outgoing {
         ensures most { result.size ≤ 1522 }
     {
         let what = self.carried;
-        let Sent { kind, size, done, .. } = self.sender.finish(now, store);
+        let Sent {
+            kind,
+            size,
+            done,
+            ..
+        } = self.sender.finish(now, store);
         let is_last = ends_frame(&what, &done);
         Finished {
             ord: self.begun.saturating_sub(1),
@@ -262,7 +267,9 @@ impl Outgoing {
             → IsSending cost add_frag calls packets → result ≡ what_of (chosen choice.now) (kept_part packets) }
     {
         match choice {
-            Choice::Express(frame) | Choice::Whole(frame) | Choice::First(frame) => What::Frame(frame.frame),
+            Choice::Express(frame) | Choice::Whole(frame) | Choice::First(frame) => What::Frame(
+                frame.frame,
+            ),
             Choice::Rest => match self.sender.interrupted() {
                 Some((frame, _)) => What::Frame(frame),
                 None => What::Nothing,

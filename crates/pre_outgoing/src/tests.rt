@@ -90,7 +90,9 @@ fn a_verify_between_fragments(rt: HostRuntime) -> Result<(), Fail> {
     let frame = frame_in(&mut store, &[7; 124]).ok_or("no slot")?;
     let what = What::Frame(frame.frame);
     let mut out = Outgoing::idle(1, 0);
-    let (begun, finished) = send(&mut out, &store, 0, Choice::First(frame), Some(1)).ok_or("not sent")?;
+    let (begun, finished) = send(&mut out, &store, 0, Choice::First(frame), Some(1)).ok_or(
+        "not sent",
+    )?;
     assert!(rt; is_begun(&begun, 0, Kind::Start(0), what, 0));
     assert!(rt; is_finished(&finished, 0, false, false));
     let (begun, finished) = send(&mut out, &store, 84, Choice::Verify, None).ok_or("not sent")?;

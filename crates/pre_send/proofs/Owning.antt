@@ -1,9 +1,8 @@
 -- The frames that a sender has after a begin.
-use Rattle.std.proofs.Common.{ℕ, ◌≡◌, Bool, true, false, List, [], ◌∷◌, ◌++◌, refl, sym, ◌∙◌, ap, Option, Some, None}
+use Rattle.std.proofs.Common.{ℕ, ◌≡◌, true, [], ◌∷◌, ◌++◌, refl, sym, ◌∙◌, ap, Option, Some, None}
 use Rattle.pre_rings.specs.declared.slots.FrameRef.{FrameRef}
 use Rattle.pre_send.specs.declared.choices.Choice.{Choice}
 use Rattle.pre_send.specs.declared.choices.Choice.TheVariants as choice
-use Rattle.pre_send.specs.declared.pieces.Piece.{Piece}
 use Rattle.pre_send.specs.declared.going.Task.{Task}
 use Rattle.pre_send.specs.declared.going.Task.TheVariants as task
 use Rattle.pre_send.specs.declared.going.Going.{Going}

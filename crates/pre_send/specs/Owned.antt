@@ -1,5 +1,5 @@
 -- The frames that a sender has: the one under way, and the one that is interrupted.
-use Rattle.std.specs.Prelude.{◌≡◌, List, [], ◌∷◌, ◌++◌, Option, Some, None}
+use Rattle.std.specs.Prelude.{List, [], ◌∷◌, ◌++◌, Option, Some, None}
 use Rattle.pre_rings.specs.declared.slots.FrameRef.{FrameRef}
 use Rattle.pre_send.specs.declared.choices.Choice.{Choice}
 use Rattle.pre_send.specs.declared.choices.Choice.TheVariants as choice
