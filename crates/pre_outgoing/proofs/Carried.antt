@@ -83,8 +83,11 @@ module _ (w : Scenario) (h : History) (p : Sending) (older : List Sending) (b : 
 
   -- ---- what is handed back
 
+  abbrev pub LastOf : What → Option FrameRef → Type 0
+  LastOf x done = (IsTrue (ends_frame x done) ↔ (b.from + p.size ≡ length (WholeOf w h b))) × HandsBack x (ends_frame x done) done
+
   abbrev pub IsLast : Option FrameRef → Type 0
-  IsLast done = (IsTrue (ends_frame b.what done) ↔ (b.from + p.size ≡ length (WholeOf w h b))) × HandsBack b.what (ends_frame b.what done) done
+  IsLast done = LastOf b.what done
 
   -- what has its whole frame at the size
   module _ (lldp_length : b.what ≡ what.Lldp → length (WholeOf w h b) ≡ 64) where
@@ -92,19 +95,21 @@ module _ (w : Scenario) (h : History) (p : Sending) (older : List Sending) (b : 
     done_whole : (f : FrameRef) → b.what ≡ what.Frame f.frame → f.size ≡ length (FrameOf w f.frame.0) → p.from ≡ 0 → p.size ≡ f.size → IsLast (Some f)
     done_whole f is sized from size =
         let long : length (WholeOf w h b) ≡ f.size = ap (λ x. length (whole_of w h b x)) is ∙ sym sized in
-        subst (λ (x : What). (IsTrue (ends_frame x (Some f)) ↔ (b.from + p.size ≡ length (WholeOf w h b))) × HandsBack x (ends_frame x (Some f)) (Some f)) (sym is)
+        subst (λ x. LastOf x (Some f)) (sym is)
         ((λ x. omega (arith, long, from, fits.from, size), λ x. refl), (refl, refl))
 
     -- a fragment
     done_part : (f : FrameRef) → b.what ≡ what.Frame f.frame → f.size ≡ length (FrameOf w f.frame.0) → IsLast (done_of f p)
     done_part f is sized =
         let long : length (WholeOf w h b) ≡ f.size = ap (λ x. length (whole_of w h b x)) is ∙ sym sized in
-        subst (λ (x : What). (IsTrue (ends_frame x (done_of f p)) ↔ (b.from + p.size ≡ length (WholeOf w h b))) × HandsBack x (ends_frame x (done_of f p)) (done_of f p)) (sym is) (by_test long (eqb_tells (p.from + p.size) f.size))
+        subst (λ x. LastOf x (done_of f p)) (sym is) (by_test long (eqb_tells (p.from + p.size) f.size))
       where
         Says : Option FrameRef → Type 0
         Says done = (IsTrue (is_some done) ↔ (b.from + p.size ≡ length (WholeOf w h b))) × HandsBack (what.Frame f.frame) (is_some done) done
 
-        by_test : length (WholeOf w h b) ≡ f.size → (((p.from + p.size == f.size) ≡ true) × (p.from + p.size ≡ f.size)) ⊎ (((p.from + p.size == f.size) ≡ false) × (p.from + p.size ≢ f.size)) → Says (done_of f p)
+        by_test : length (WholeOf w h b) ≡ f.size
+            → (((p.from + p.size == f.size) ≡ true) × (p.from + p.size ≡ f.size)) ⊎ (((p.from + p.size == f.size) ≡ false) × (p.from + p.size ≢ f.size))
+            → Says (done_of f p)
         by_test long (inl (test, same)) =
             subst (λ (x : Bool). Says (if x then Some f else None)) (sym test) ((λ x. omega (arith, long, fits.from, same), λ x. refl), (refl, refl))
         by_test long (inr (test, other)) =
@@ -113,10 +118,10 @@ module _ (w : Scenario) (h : History) (p : Sending) (older : List Sending) (b : 
     done_none : (x : What) → b.what ≡ x → ((f : ℕ) → ¬ (x ≡ what.Frame (record { 0 = f }))) → length (WholeOf w h b) ≡ 64 → p.from ≡ 0 → p.size ≡ 64 → IsLast None
     done_none (what.Frame f) is no_frame long from size = absurd (no_frame f.0 refl)
     done_none what.Lldp is no_frame long from size =
-        subst (λ (x : What). (IsTrue (ends_frame x None) ↔ (b.from + p.size ≡ length (WholeOf w h b))) × HandsBack x (ends_frame x None) None) (sym is)
+        subst (λ x. LastOf x None) (sym is)
         ((λ x. omega (arith, long, from, fits.from, size), λ x. refl), (refl, refl))
     done_none what.Nothing is no_frame long from size =
-        subst (λ (x : What). (IsTrue (ends_frame x None) ↔ (b.from + p.size ≡ length (WholeOf w h b))) × HandsBack x (ends_frame x None) None) (sym is)
+        subst (λ x. LastOf x None) (sym is)
         ((λ x. omega (arith, long, from, fits.from, size), λ x. refl), (refl, refl))
 
     last_by : (ch : Chosen) → p.told.chosen ≡ ch → Follows cost add_frag ch older p → IsLast (done_by ch (interrupted older) p)

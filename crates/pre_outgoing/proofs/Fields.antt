@@ -57,8 +57,8 @@ size_is cost add_frag (task.Fragment x) kept p older (none, from, kind_is, size,
 abbrev pub tick_of : ℕ → Tick
 tick_of n = record { 0 = n }
 
-plan_of : (cost add_frag own : ℕ) → own ≡ cost → (going : Option Going) (kept : Option Piece) (last : Option ℕ) (packets : List Sending) → AreSent cost add_frag packets → IsAt cost going kept last packets
-    → PlannedEnd cost packets (option_map tick_of (option_map (λ (g : Going). g.began + own * (8 + task_size g.task)) going))
+plan_of : (cost add_frag own : ℕ) → own ≡ cost → (going : Option Going) (kept : Option Piece) (last : Option ℕ) (packets : List Sending) → AreSent cost add_frag packets
+    → IsAt cost going kept last packets → PlannedEnd cost packets (option_map tick_of (option_map (λ (g : Going). g.began + own * (8 + task_size g.task)) going))
 plan_of cost add_frag own same None kept last [] sent at = tt
 plan_of cost add_frag own same None kept last (p ∷ older) sent at = (at.0, at.1)
 plan_of cost add_frag own same (Some g) kept last [] sent at = absurd at

@@ -29,7 +29,8 @@ whole_same w h g b told = go b.what
     go (what.Frame f) = refl
     go what.Nothing = refl
     go what.Lldp =
-        ap (λ (v : Bool). lldp_frame (arc w b.arc).from.0 b.arc (record { enabled = is_on (SettingOf w b.arc b.tick); active = v; add_frag = (arc w b.arc).add_frag; ttl = ttl_under w (SettingOf w b.arc b.tick) })) told
+        let set = SettingOf w b.arc b.tick in
+        ap (λ (v : Bool). lldp_frame (arc w b.arc).from.0 b.arc (record { enabled = is_on set; active = v; add_frag = (arc w b.arc).add_frag; ttl = ttl_under w set })) told
 
 module _ (w : Scenario) (h g : History) (a now later : ℕ) (settled after : Bool) (o new : Outgoing) (le : now ≤ later) (bs : Begins g a ≡ Begins h a) (es : Ends g a ≡ Ends h a)
     (told : (t : ℕ) → t < now → ToldActive w g a t ≡ ToldActive w h a t) (sends : Sends w h a now settled o) where

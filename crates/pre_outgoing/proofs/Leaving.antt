@@ -36,7 +36,7 @@ use Rattle.pre_outgoing.specs.declared.outgoing.Finished.{Finished}
 use Rattle.pre_outgoing.specs.declared.outgoing.Outgoing.{Outgoing}
 use Rattle.pre_outgoing.specs.Matching.{Matches, IsStored, Fits, EndsFit, Agree, what_of}
 use Rattle.pre_outgoing.proofs.Readings.{OtherIs}
-use Rattle.pre_outgoing.specs.Sends.{AreStored, HandsBack, HasEnded, IsNewest, Leaves, Sends, ends_frame, lent_by}
+use Rattle.pre_outgoing.specs.Sends.{AreStored, HandsBack, HasEnded, IsNewest, Leaves, Sends, ends_frame, lent_by, next_end}
 use Rattle.pre_outgoing.proofs.Agreeing.{same_packets, newest, lldp_length}
 use Rattle.pre_outgoing.proofs.Carried.{right_data, same_kind, is_last}
 use Rattle.pre_outgoing.proofs.Fields.{planned_at, lends_advert, stored_going, tick_of}
@@ -108,7 +108,7 @@ module _ (w : Scenario) (past : History) (t a : ℕ) (o : Outgoing) (a_lt : a < 
         newest = its_begin.1;
         size = p.size;
         happens =
-            subst (λ xs. HappensIn w past t (Phase.ends a) (PlainEvent.ended (record { tick = t; arc = a; ord = length (EndsOf past a); size = p.size; check = xs }) ∷ [])) (sym check_is) (happens other (lent_is zeros));
+            subst (λ xs. HappensIn w past t (Phase.ends a) (PlainEvent.ended (next_end w past t a p.size xs) ∷ [])) (sym check_is) (happens other (lent_is zeros));
         kind = kind_is;
         mdata = mdata_is;
         sent = ap₂ (λ (k : Kind) (xs : List ℕ). head_of k ++ xs ++ m.check) kind_is mdata_is;
@@ -134,7 +134,8 @@ module _ (w : Scenario) (past : History) (t a : ℕ) (o : Outgoing) (a_lt : a < 
 
   one_event : (e : Ended) → HappensIn w past t (Phase.ends a) (PlainEvent.ended e ∷ []) → e ≡ event
   one_event e is =
-      let same : PlainEvent.ended e ∷ [] ≡ PlainEvent.ended event ∷ [] = ends_decided w past t a (PlainEvent.ended e ∷ []) (PlainEvent.ended event ∷ []) is (happens (WholeOf w past its_begin.0) told_whole) in
+      let same : PlainEvent.ended e ∷ [] ≡ PlainEvent.ended event ∷ []
+      = ends_decided w past t a (PlainEvent.ended e ∷ []) (PlainEvent.ended event ∷ []) is (happens (WholeOf w past its_begin.0) told_whole) in
       cc same
 
   -- what the sender answers to the end

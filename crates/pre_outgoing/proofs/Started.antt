@@ -29,7 +29,7 @@ use Rattle.pre_history.proofs.Steady.{costs}
 use Rattle.pre_outgoing.specs.declared.outgoing.Begun.{Begun}
 use Rattle.pre_outgoing.specs.declared.outgoing.Outgoing.{Outgoing}
 use Rattle.pre_outgoing.specs.Matching.{Matches, Fits, EndsFit, Agree, IsTold, what_of}
-use Rattle.pre_outgoing.specs.Sends.{Carries, HasBegun, IsLldp, IsNewest, Sends, begin_of, next_count}
+use Rattle.pre_outgoing.specs.Sends.{Carries, HasBegun, IsLldp, IsNewest, Sends, next_begin, next_count}
 use Rattle.pre_outgoing.proofs.Agreeing.{begun_early, same_packets}
 use Rattle.pre_outgoing.proofs.Ahead.{begun_ahead}
 use Rattle.pre_outgoing.proofs.Beginning.{begins, free_then}
@@ -109,7 +109,7 @@ module _ (w : Scenario) (past : History) (t a n : ℕ) (settled : Bool) (o new :
   add_frag = (arc w a).add_frag
 
   abbrev event : Begin
-  event = begin_of past t a c
+  event = next_begin past t a c
 
   abbrev es : History
   es = PlainEvent.begin event ∷ []
@@ -125,7 +125,9 @@ module _ (w : Scenario) (past : History) (t a n : ℕ) (settled : Bool) (o new :
 
   -- the newest mPacket is this one
   newest_is : (p : Sending) (older : List Sending) → IsSending cost add_frag (sends.calls ++ begun t ch ∷ []) (p ∷ older) → p.told.end ≡ None → IsNewest (past ++ es) a event × Fits w p older event
-  newest_is p older sending none = go (subst (λ ps. Agree w ps (Begins (past ++ es) a) (Ends (past ++ es) a)) (same_packets w (past ++ es) a (t + 1) true (sends.calls ++ begun t ch ∷ []) (p ∷ older) after sending) after.agree)
+  newest_is p older sending none =
+      let same = same_packets w (past ++ es) a (t + 1) true (sends.calls ++ begun t ch ∷ []) (p ∷ older) after sending in
+      go (subst (λ ps. Agree w ps (Begins (past ++ es) a) (Ends (past ++ es) a)) same after.agree)
     where
       go : Agree w (p ∷ older) (Begins (past ++ es) a) (Ends (past ++ es) a) → IsNewest (past ++ es) a event × Fits w p older event
       go (front, x, before, bs_is, ends, same_length, fits, others) =

@@ -81,8 +81,8 @@ lent_by None zeros advert = advert
 lent_by (Some (k, from)) zeros advert = lent_as k zeros advert
 
 -- what begins on the arc at the tick, as the next mPacket
-abbrev pub begin_of : History → ℕ → ℕ → Start → Begin
-begin_of past t a c = record { tick = t; arc = a; ord = length (Begins past a); kind = c.kind; what = c.what; from = c.from }
+abbrev pub next_begin : History → ℕ → ℕ → Start → Begin
+next_begin past t a c = record { tick = t; arc = a; ord = length (Begins past a); kind = c.kind; what = c.what; from = c.from }
 
 -- whether the octets of an mPacket are the last of what it carries: those of a user frame where it is handed back
 abbrev pub ends_frame : What → Option FrameRef → Bool
@@ -104,24 +104,24 @@ module _ (w : Scenario) (past : History) (t a : ℕ) where
     pub kind : b.kind ≡ c.kind
     pub carries : b.what ≡ c.what
     pub from : b.from ≡ c.from
-    pub sends : Sends w (past ++ PlainEvent.begin (begin_of past t a c) ∷ []) a (t + 1) true o
+    pub sends : Sends w (past ++ PlainEvent.begin (next_begin past t a c) ∷ []) a (t + 1) true o
     pub ahead : (due : ℕ) → plans_end o.sender ≡ Some due → t < due
 
   -- ---- what ends
 
   -- the event of what ends on the arc at the tick with this size and check
-  abbrev pub end_of : ℕ → List ℕ → Ended
-  end_of size check = record { tick = t; arc = a; ord = length (Ends past a); size = size; check = check }
+  abbrev pub next_end : ℕ → List ℕ → Ended
+  next_end size check = record { tick = t; arc = a; ord = length (Ends past a); size = size; check = check }
 
   -- the mPacket that ends at the tick: its event by the rules, and its octets as they are sent
   pub record Leaves (m : PlainPacket) : Type 0 where
     pub begin : Begin
     pub newest : IsNewest past a begin
     pub size : ℕ
-    pub happens : HappensIn w past t (Phase.ends a) (PlainEvent.ended (end_of size m.check) ∷ [])
+    pub happens : HappensIn w past t (Phase.ends a) (PlainEvent.ended (next_end size m.check) ∷ [])
     pub kind : m.kind ≡ begin.kind
     pub mdata : m.mdata ≡ take (size - 4) (drop begin.from (WholeOf w past begin))
-    pub sent : head_of m.kind ++ m.mdata ++ m.check ≡ SentOctets w past begin (end_of size m.check)
+    pub sent : head_of m.kind ++ m.mdata ++ m.check ≡ SentOctets w past begin (next_end size m.check)
 
   -- what has ended with this event
   pub record HasEnded (e : Ended) (f : Finished) (o : Outgoing) : Type 0 where

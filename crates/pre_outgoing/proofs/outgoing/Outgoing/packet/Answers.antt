@@ -16,5 +16,6 @@ mpacket-requires-clause-other c =
 pub returns-clause-leaves : goal.returns-clause-leaves
 returns-clause-leaves c = λ w past t a a_lt legal sends stored due.
     let g = c.mpacket.ensures.given (arc w a).cost (arc w a).add_frag sends.calls sends.stands in
-    leaves w past t a c.args.self.now a_lt legal sends c.args.store.now stored due g.0 g.1 g.2 c.args.zeros.now (record { kind = c.mpacket.result.0; mdata = c.mpacket.result.1.now; check = c.mpacket.result.2 })
+    leaves w past t a c.args.self.now a_lt legal sends c.args.store.now stored due g.0 g.1 g.2 c.args.zeros.now
+    (record { kind = c.mpacket.result.0; mdata = c.mpacket.result.1.now; check = c.mpacket.result.2 })
     (g.4 ∙ ap (packet_after g.1 g.0 c.args.store.now) c.other-other.ensures.lent)
