@@ -7,3 +7,4 @@ pub mod Giving
 pub mod Joining
 pub mod Carried
 pub mod OneSending
+pub mod Owning

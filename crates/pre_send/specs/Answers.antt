@@ -2,6 +2,7 @@
 use Rattle.std.specs.Prelude.{◌≡◌, ℕ, ◌+◌, ◌*◌, ◌≤◌, ◌&&◌, Bool, true, false, if◌then◌else◌, List, [], ◌∷◌, Option, Some, None, is_none, option_map}
 use Rattle.pre_base.specs.declared.numbers.Tick.{Tick}
 use Rattle.pre_base.specs.declared.numbers.FrameNo.{FrameNo}
+use Rattle.pre_mpacket.specs.declared.packets.Kind.{Kind}
 use Rattle.pre_send.specs.Calls.{Chosen, first, rest, Call, Told, End}
 use Rattle.pre_send.specs.Sendings.{Sending, Part, interrupted, IsSending, IsFree}
 
@@ -38,3 +39,13 @@ kept_part (p ∷ older) = if is_none p.told.end && is_part p.told.chosen then No
 abbrev pub IsInterrupted : ℕ → ℕ → List Call → Option (FrameNo × ℕ) → Type 0
 IsInterrupted cost add_frag calls named =
     (packets : List Sending) × IsSending cost add_frag calls packets × (named ≡ option_map (λ part. (part.frame.frame, part.place)) (kept_part packets))
+
+-- the mPacket under way: its kind, and the place of its mData in its frame
+abbrev pub NewestIs : List Sending → Option (Kind × ℕ) → Type 0
+NewestIs [] None = Unit {0}
+NewestIs [] (Some k) = ⊥
+NewestIs (p ∷ older) None = (end : End) × (p.told.end ≡ Some end)
+NewestIs (p ∷ older) (Some k) = (p.told.end ≡ None) × (k.0 ≡ p.kind) × (k.1 ≡ p.from)
+
+abbrev pub IsUnderWayAs : ℕ → ℕ → List Call → Option (Kind × ℕ) → Type 0
+IsUnderWayAs cost add_frag calls k = (packets : List Sending) × IsSending cost add_frag calls packets × NewestIs packets k

@@ -12,3 +12,5 @@ pub mod Frames
 pub mod Packets
 pub mod Lendings
 pub mod Carrying
+pub mod Alone
+pub mod Owned

@@ -1,5 +1,6 @@
 -- For which calls so far a sender stands.
-use Rattle.std.specs.Prelude.{◌≡◌, ◌⊎◌, ℕ, ◌+◌, ◌*◌, ◌%◌, ◌<◌, ◌≤◌, Bool, true, false, List, [], ◌∷◌, map, Option, Some, None, nat_le, is_some}
+use Rattle.std.specs.Prelude.{◌≡◌, ◌⊎◌, ℕ, ◌+◌, ◌*◌, ◌%◌, ◌<◌, ◌≤◌, Bool, true, false, List, [], ◌∷◌, map, Option, Some, None, nat_le, is_some, option_map, IsSome, ◌↔◌}
+use Rattle.pre_base.specs.declared.numbers.Tick.{Tick}
 use Rattle.pre_base.specs.declared.limits.TheConstants.{LEAST_FRAME, GREATEST_FRAME, GAP}
 use Rattle.pre_crc.specs.Register as register
 use Rattle.pre_rings.specs.declared.slots.FrameRef.{FrameRef}
@@ -12,6 +13,9 @@ use Rattle.pre_send.specs.declared.going.Going.{Going}
 use Rattle.pre_send.specs.declared.senders.Sender.{Sender}
 use Rattle.pre_send.specs.Calls.{Chosen, express, whole, first, rest, verify, respond, lldp, Call, End}
 use Rattle.pre_send.specs.Plans.{piece_kind, piece_size}
+use Rattle.pre_mpacket.specs.declared.packets.Kind.{Kind}
+use Rattle.pre_send.specs.Tasks.{task_kind}
+use Rattle.pre_send.specs.Endings.{plans_end}
 use Rattle.pre_send.specs.Sendings.{Sending, Part, firsts, interrupted, IsSending, IsFree}
 
 -- a choice as a plain value
@@ -81,8 +85,17 @@ is_free_with (Some g) cost last t = false
 unfoldable pub is_free : Sender → ℕ → Bool
 is_free s t = is_free_with s.going s.cost s.last t
 
+-- it is free from this tick on, and not before; none is named where an mPacket is under way
+abbrev pub IsFreeFrom : Sender → Option Tick → Type 0
+IsFreeFrom s None = IsSome (plans_end s)
+IsFreeFrom s (Some t) = (u : ℕ) → (is_free s u ≡ true) ↔ (t.0 ≤ u)
+
 unfoldable pub is_interrupted : Sender → Bool
 is_interrupted s = is_some s.kept
+
+-- the kind of what is under way, and the place of its mData in its frame
+unfoldable pub kind_under_way : Sender → Option (Kind × ℕ)
+kind_under_way s = option_map (λ g. task_kind g.task) s.going
 
 -- a choice that may be made
 abbrev pub HasSize : FrameRef → Type 0

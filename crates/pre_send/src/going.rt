@@ -1,6 +1,6 @@
 ghost use Rattle.std.specs.Prelude.{◌≡◌, ◌+◌, ◌^◌, ◌≤◌, ◌<◌, length, replicate};
 ghost use Rattle.pre_mpacket.specs.Spelling.{PlainPacket, IsWhole};
-ghost use Rattle.pre_send.specs.Tasks.{task_size, TaskTold};
+ghost use Rattle.pre_send.specs.Tasks.{task_kind, task_size, TaskTold};
 ghost use Rattle.pre_send.specs.Packets.{in_one_piece, bare};
 ghost use Rattle.pre_mpacket.specs.declared.packets.Kind.TheVariants as kind;
 
@@ -30,9 +30,22 @@ pub(crate) struct Going {
     pub waits: Option<u64>,
     ghost began_within: { began ≤ 10 ^ 18 },
     ghost size_least: { 64 ≤ task_size task },
+    ghost size_most: { task_size task ≤ 1522 },
 }
 
 impl Task {
+    /// Its kind, and the place of its mData in its frame.
+    pub fn kind(&self) -> (Kind, u16)
+        ensures { result ≡ task_kind self.now }
+    {
+        match self {
+            Task::Frame(_) | Task::Lldp => (Kind::Express, 0),
+            Task::Fragment(piece) => (piece.kind(), piece.from),
+            Task::Verify => (Kind::Verify, 0),
+            Task::Respond => (Kind::Respond, 0),
+        }
+    }
+
     ghost use Rattle.pre_send.specs.Endings.{HoldsTask};
     ghost use Rattle.pre_send.specs.Lendings.{LendsTask, GivesTask};
 
@@ -95,12 +108,14 @@ impl Going {
 // The same task, where an express frame waits from a tick on.
 fn task_told(task: Task, began: u64, waits: u64, cost: u64, add_frag: u8) -> Task
     requires cost { 1 ≤ cost }
-    requires most { cost ≤ 1000 }
+    requires cost_most { cost ≤ 1000 }
     requires add_frag { add_frag ≤ 3 }
     requires waits { waits ≤ 10 ^ 18 }
     requires size { 64 ≤ task_size task }
+    requires most { task_size task ≤ 1522 }
     ensures told { TaskTold task result began waits cost add_frag }
     ensures size { 64 ≤ task_size result }
+    ensures most { task_size result ≤ 1522 }
 {
     match task {
         Task::Fragment(piece) => Task::Fragment(piece.told(began, waits, cost, add_frag)),

@@ -4,6 +4,7 @@ ghost use Rattle.pre_base.specs.declared.limits.TheConstants.{LEAST_FRAME, GREAT
 ghost use Rattle.pre_rings.specs.Stores.{HoldsFrame};
 ghost use Rattle.pre_send.specs.Fragments.{next_fragment};
 ghost use Rattle.pre_send.specs.Sendings.{octets_at};
+ghost use Rattle.pre_send.specs.Alone.{has_both};
 
 use crate::choices::{Choice, Sent};
 use crate::going::{Going, Task};
@@ -32,26 +33,29 @@ pub struct Sender {
     ghost add_frag_within: { add_frag ≤ 3 },
     ghost last_within: { ForSome last (λ e. e ≤ 2 * 10 ^ 18) },
     ghost count_within: { frame_count < 4 },
+    ghost alone: { has_both going kept ≡ false },
 }
 
 impl Sender {
     ghost use Rattle.pre_send.specs.Calls.{Call, begun, waited, ended, told_by};
     ghost use Rattle.pre_send.specs.Sendings.{IsFree};
-    ghost use Rattle.pre_send.specs.Answers.{IsFreeAt, EndsAt, IsInterrupted};
+    ghost use Rattle.pre_send.specs.Answers.{IsFreeAt, EndsAt, IsInterrupted, IsUnderWayAs};
     ghost use Rattle.pre_send.specs.Endings.{Ends, plans_end, Holds, HoldsAll, HoldsChoice, HoldsTask, EndsPiece, EndsTask};
     ghost use Rattle.pre_mpacket.specs.Spelling.{PlainPacket, IsWhole};
     ghost use Rattle.pre_send.specs.Tasks.{task_size};
     ghost use Rattle.pre_send.specs.Lendings.{Lends, LendsChoice, Gives};
-    ghost use Rattle.pre_send.specs.Senders.{Stands, chosen, is_free, is_interrupted, MayBegin, Firsts, Rests, Chooses};
+    ghost use Rattle.pre_send.specs.Owned.{frames_of, frames_chosen, frames_done};
+    ghost use Rattle.pre_send.specs.Senders.{Stands, chosen, is_free, IsFreeFrom, is_interrupted, kind_under_way, MayBegin, Firsts, Rests, Chooses};
 
     /// A sender that has sent nothing, by the ticks for an octet and the link's additional fragment size.
-    #[tactic(auto, unfolding(crate::specs::Endings::Holds, crate::specs::Endings::HoldsKept))]
+    #[tactic(auto, unfolding(crate::specs::Endings::Holds, crate::specs::Endings::HoldsKept, crate::specs::Owned::frames_of))]
     pub fn idle(cost: u64, add_frag: u8) -> Sender
         requires cost { 1 ≤ cost }
         requires most { cost ≤ 1000 }
         requires add_frag { add_frag ≤ 3 }
         ensures stands { Stands result cost add_frag [] }
         ensures holds { (store : List (Option (List ℕ))) → HoldsAll result store }
+        ensures frames { frames_of result ≡ [] }
     {
         Sender {
             cost,
@@ -79,8 +83,10 @@ impl Sender {
     }
 
     /// The least tick from which on nothing occupies the arc. None exactly where an mPacket is under way.
+    #[tactic(auto, unfolding(crate::specs::Senders::is_free, crate::specs::Endings::plans_end))]
     pub fn free_at(&self) -> Option<Tick>
-        ensures { (cost add_frag : ℕ) (calls : List Call) → Stands self.now cost add_frag calls → IsFreeAt cost (told_by calls) result }
+        ensures own { IsFreeFrom self.now result }
+        ensures exact { (cost add_frag : ℕ) (calls : List Call) → Stands self.now cost add_frag calls → IsFreeAt cost (told_by calls) result }
     {
         if self.going.is_some() {
             return None;
@@ -111,8 +117,18 @@ impl Sender {
         Some((piece.frame.frame, piece.from))
     }
 
+    /// The kind of the mPacket under way, and the place of its mData in its frame; None exactly where there is none.
+    #[tactic(auto, unfolding(crate::specs::Senders::kind_under_way))]
+    pub fn under_way(&self) -> Option<(Kind, u16)>
+        ensures own { result ≡ kind_under_way self.now }
+        ensures exact { (cost add_frag : ℕ) (calls : List Call) → Stands self.now cost add_frag calls → IsUnderWayAs cost add_frag calls result }
+    {
+        let going = self.going.as_ref()?;
+        Some(going.task.kind())
+    }
+
     /// Tells that an mPacket begins.
-    #[tactic(auto, unfolding(crate::specs::Endings::plans_end, crate::specs::Endings::Holds, crate::specs::Endings::HoldsKept, crate::specs::Lendings::Lends))]
+    #[tactic(auto, unfolding(crate::specs::Owned::frames_of, crate::specs::Endings::plans_end, crate::specs::Endings::Holds, crate::specs::Endings::HoldsKept, crate::specs::Lendings::Lends))]
     pub fn begin(&mut self, now: Tick, choice: Choice)
         requires free { is_free self.old now.0 ≡ true }
         requires may { MayBegin self.old choice }
@@ -121,6 +137,7 @@ impl Sender {
         ensures going { IsSome (plans_end self.new) }
         ensures holds { (store : List (Option (List ℕ))) → HoldsAll self.old store → HoldsChoice choice store → HoldsAll self.new store }
         ensures lends { (other : List ℕ) → LendsChoice choice other → Lends self.new other }
+        ensures frames { frames_of self.new ≡ frames_chosen choice ++ frames_of self.old }
     {
         let task = self.task_of(choice);
         self.going = Some(Going {
@@ -132,7 +149,7 @@ impl Sender {
 
     /// Tells that an express frame waits from now on until the mPacket under way has ended, which fixes where a fragment is
     /// cut. With none under way it changes nothing. Ticks never fall from call to call.
-    #[tactic(auto, unfolding(crate::specs::Endings::plans_end, crate::specs::Endings::Holds, crate::specs::Endings::HoldsKept, crate::specs::Lendings::Lends))]
+    #[tactic(auto, unfolding(crate::specs::Owned::frames_of, crate::specs::Endings::plans_end, crate::specs::Endings::Holds, crate::specs::Endings::HoldsKept, crate::specs::Lendings::Lends))]
     pub fn express_waits(&mut self, now: Tick)
         requires { now.0 ≤ 10 ^ 18 }
         ensures stands { (cost add_frag : ℕ) (calls : List Call) → Stands self.old cost add_frag calls → Stands self.new cost add_frag (calls ++ waited now.0 ∷ []) }
@@ -140,6 +157,7 @@ impl Sender {
         ensures going { IsSome (plans_end self.old) → IsSome (plans_end self.new) }
         ensures holds { (store : List (Option (List ℕ))) → HoldsAll self.old store → HoldsAll self.new store }
         ensures lends { (other : List ℕ) → Lends self.old other → Lends self.new other }
+        ensures frames { frames_of self.new ≡ frames_of self.old }
     {
         let Some(going) = self.going.take() else {
             return;
@@ -166,7 +184,7 @@ impl Sender {
     }
 
     /// Tells that the mPacket under way has ended, and what it was. The store holds its frame.
-    #[tactic(auto, unfolding(crate::specs::Endings::plans_end, crate::specs::Endings::Holds, crate::specs::Endings::HoldsKept))]
+    #[tactic(auto, unfolding(crate::specs::Owned::frames_of, crate::specs::Endings::plans_end, crate::specs::Endings::Holds, crate::specs::Endings::HoldsKept))]
     pub fn finish(&mut self, now: Tick, store: &FrameStore) -> Sent
         requires due { plans_end self.old ≡ Some now.0 }
         requires holds { Holds self.old store.now }
@@ -175,6 +193,9 @@ impl Sender {
         ensures holds { HoldsAll self.old store.now → HoldsAll self.new store.now }
         ensures done { IfSome result.done (λ f. HoldsFrame store.now f) }
         ensures sent { (cost add_frag : ℕ) (calls : List Call) → Stands self.old cost add_frag calls → Ends cost add_frag (calls ++ ended now.0 store.now ∷ []) result }
+        ensures frames { frames_of self.old ≡ frames_done result.done ++ frames_of self.new }
+        ensures least { 64 ≤ result.size }
+        ensures most { result.size ≤ 1522 }
     {
         let Some(going) = self.going.take() else {
             unreachable!()
@@ -186,8 +207,10 @@ impl Sender {
 
     // Ends what was under way.
     fn end_task(&mut self, task: Task, store: &FrameStore) -> Sent
-        requires { HoldsTask task store.now }
+        requires holds { HoldsTask task store.now }
+        requires none { self.old.going ≡ None }
         ensures ends { EndsTask task self.old self.new store.now result }
+        ensures size { result.size ≡ task_size task }
         ensures done { IfSome result.done (λ f. HoldsFrame store.now f) }
     {
         match task {
@@ -206,7 +229,8 @@ impl Sender {
 
     // Ends a fragment: its frame is done, or it is kept.
     fn end_piece(&mut self, piece: Piece, store: &FrameStore) -> Sent
-        requires { HoldsFrame store.now piece.frame }
+        requires holds { HoldsFrame store.now piece.frame }
+        requires none { self.old.going ≡ None }
         ensures ends { EndsPiece self.old self.new piece store.now result }
         ensures done { IfSome result.done (λ f. HoldsFrame store.now f) }
     {
@@ -252,6 +276,7 @@ impl Sender {
         requires { MayBegin self.old choice }
         ensures chooses { Chooses choice self.old self.new result }
         ensures size { 64 ≤ task_size result }
+        ensures size_most { task_size result ≤ 1522 }
     {
         match choice {
             Choice::Express(frame) => Task::Frame(frame),
@@ -270,6 +295,7 @@ impl Sender {
         requires most { frame.size ≤ GREATEST_FRAME }
         ensures first { Firsts self.old self.new frame result }
         ensures size { 64 ≤ task_size result }
+        ensures size_most { task_size result ≤ 1522 }
     {
         let frame_count = self.frame_count;
         self.frame_count = (frame_count + 1) % 4;
@@ -289,6 +315,7 @@ impl Sender {
         requires { is_interrupted self.old ≡ true }
         ensures rest { Rests self.old self.new result }
         ensures size { 64 ≤ task_size result }
+        ensures size_most { task_size result ≤ 1522 }
     {
         match self.kept.take() {
             Some(piece) => Task::Fragment(piece),

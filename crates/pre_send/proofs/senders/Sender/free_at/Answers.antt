@@ -12,8 +12,8 @@ none_from : (o : Option Going) → (b : Bool) → b ≡ is_some o → b ≡ fals
 none_from None b is no_one = refl
 none_from (Some g) b is no_one = absurd (cc (is, no_one))
 
-pub returns-in-Some : goal.returns-in-Some
-returns-in-Some c = λ cost add_frag calls st.
+pub returns-in-Some-clause-exact : goal.returns-in-Some-clause-exact
+returns-in-Some-clause-exact c = λ cost add_frag calls st.
     let s = c.args.self.now in
     let t : Tick = record { 0 = c.in-Some.last + 12 * s.cost } in
     let idle : s.going ≡ None = none_from s.going c.is_some.result c.is_some.ensures c.if-is_some.false in

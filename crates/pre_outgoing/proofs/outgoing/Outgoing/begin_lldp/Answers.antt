@@ -1,0 +1,13 @@
+use Rattle.std.proofs.Common.{refl, ◌∙◌}
+use Rattle.pre_send.specs.Calls.{lldp}
+use Rattle.pre_history.specs.Scenario.{arc}
+use Rattle.pre_history.specs.Starts.{lldp_begins}
+use Rattle.pre_outgoing.proofs.Started.{has_begun}
+use Rattle.pre_outgoing.proofs.outgoing.Outgoing.begin_lldp.Goals as goal
+
+pub returns-clause-begins : goal.returns-clause-begins
+returns-clause-begins c = λ w past a n settled a_lt legal sends rule frame_is.
+    has_begun w past c.args.now.0 a n settled c.args.self.now c.start.new.self lldp lldp_begins c.start.result a_lt legal sends rule refl
+    (c.start.ensures.stands (arc w a).cost (arc w a).add_frag sends.calls sends.stands) c.requires.within (c.start.ensures.under_way (arc w a).cost (arc w a).add_frag sends.calls sends.stands)
+    (λ packets sending. c.start.ensures.carries (arc w a).cost (arc w a).add_frag sends.calls packets sends.stands sending) c.start.ensures.counts.0 c.start.ensures.counts.1 c.start.ensures.counts.2
+    c.start.ensures.keeps.0 (λ is. c.start.ensures.keeps.1 ∙ frame_is)
