@@ -4,7 +4,6 @@ use Rattle.std.specs.Prelude.{if◌then◌else◌, slice_get, MatchOption, count
 use Rattle.std.specs.List.{AllByRecursion as Every}
 use Rattle.std.proofs.lemmas.List.{length-append, length-take-le}
 use Rattle.std.proofs.lemmas.List.Sums.{sum_by-append}
-use Rattle.std.proofs.lemmas.List.Elements.{All-from_recursion}
 use Rattle.std.proofs.lemmas.Bool.Decides.{nat_tests}
 use Rattle.pre_mpacket.specs.declared.packets.Kind.{Kind}
 use Rattle.pre_mpacket.specs.declared.packets.Kind.TheVariants as kind
@@ -70,7 +69,7 @@ module _ (w : Scenario) (h : History) (a t : ℕ) where
         run_is.start,
         run_is.more,
         is ∙ run_is.run_is,
-        All-from_recursion EndedBy (run_is.start ∷ run_is.more) (subst (Every EndedBy) run_is.run_is all),
+        subst (Every EndedBy) run_is.run_is all,
         unlike,
         same ∙ sym rest_is,
       )

@@ -12,7 +12,7 @@ use Rattle.pre_history.specs.Scenario.{Scenario, arc}
 use Rattle.pre_history.specs.History.{History, Begin, Ended}
 use Rattle.pre_history.specs.Octets.{ToldActive, WholeOf, whole_of, is_on, ttl_under}
 use Rattle.pre_history.specs.Queries.{Begins, Ends, Entries, SettingOf}
-use Rattle.pre_history.specs.Placed.{AllLater}
+use Rattle.pre_history.specs.Placed.{AreLater}
 use Rattle.pre_history.proofs.Lists.{every_at}
 use Rattle.pre_history.proofs.Placing.{begins_arc}
 use Rattle.std.specs.Prelude.{slice_get}
@@ -55,7 +55,7 @@ pub other_events : (w : Scenario) (h g : History) (a now : ℕ) (settled : Bool)
 other_events w h g a now settled o bs es rings told sends =
     with_sender w h g a now now settled settled o o (omega arith) bs es told sends sends.calls sends.stands (others w h g a now settled sends.calls bs es rings sends.matches) refl refl refl refl
 
-pub entries_come : (w : Scenario) (h es : History) (a now : ℕ) (o : Outgoing) → Begins (h ++ es) a ≡ Begins h a → Ends (h ++ es) a ≡ Ends h a → ((t : ℕ) → t < now → AllLater t es)
+pub entries_come : (w : Scenario) (h es : History) (a now : ℕ) (o : Outgoing) → Begins (h ++ es) a ≡ Begins h a → Ends (h ++ es) a ≡ Ends h a → ((t : ℕ) → t < now → AreLater w t es)
     → ((t : ℕ) → t < now → ToldActive w (h ++ es) a t ≡ ToldActive w h a t) → Sends w h a now true o → Sends w (h ++ es) a now false o
 entries_come w h es a now o bs ends later told sends =
     with_sender w h (h ++ es) a now now true false o o (omega arith) bs ends told sends sends.calls sends.stands (entered w h es a now sends.calls bs ends later sends.matches) refl refl refl refl

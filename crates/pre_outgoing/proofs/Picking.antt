@@ -10,7 +10,7 @@ use Rattle.pre_send.specs.Calls.{Chosen, express, whole, first, rest, verify, re
 use Rattle.pre_send.specs.Sendings.{Part}
 use Rattle.pre_send.specs.Answers.{is_part}
 use Rattle.pre_history.specs.declared.events.What.TheVariants as what
-use Rattle.pre_history.specs.Scenario.{Scenario}
+use Rattle.pre_history.specs.Scenario.{Scenario, arc}
 use Rattle.pre_history.specs.History.{History}
 use Rattle.pre_history.specs.Queries.{Rest, Interrupted, Waiting}
 use Rattle.pre_history.specs.Starts.{Item, Choice, place, whole_frame, rest_begins, without_octets, lldp_begins, ExpressWaits, IsFront, starts_before, There}
@@ -43,7 +43,7 @@ is_bare other = false
 module _ (w : Scenario) (h : History) (a t : ℕ) where
   -- where the rule finds no express frame, none waits
   none_waits : ((d : Choice) → ¬ There w h a t Item.express d) → ¬ ExpressWaits w h a t
-  none_waits none (p, from, below, some) = elim (highest w h a t w.net.express_from 8) [
+  none_waits none (p, from, below, some) = elim (highest w h a t (arc w a).express_from 8) [
     | inl empty ↦ some (empty p from below)
     | inr found ↦ none (whole_frame found.0 kind.Express) (found.0, found.1, refl)
   ]

@@ -19,7 +19,8 @@ use Rattle.pre_history.specs.Selected.{RingEntry, begin_on, ended_on, entry_on, 
 use Rattle.pre_history.specs.Queries.{Begins, Ends, Entries, Waiting}
 use Rattle.pre_history.specs.Starts.{Choice, ExpressWaits}
 use Rattle.pre_history.specs.Legal.{LegalUpTo}
-use Rattle.pre_history.specs.Placed.{number, IsBefore, AllLater}
+use Rattle.pre_history.specs.Placed.{number, IsBefore, AreLater}
+use Rattle.pre_history.proofs.Places.{later_read}
 use Rattle.pre_history.proofs.Lists.{every_selected, every_at}
 use Rattle.pre_history.proofs.Later.{waiting_later}
 use Rattle.pre_history.proofs.Placing.{placed}
@@ -64,13 +65,13 @@ others w h g a now settled calls bs es rings m = record {
   waits = waits_same w g h a now settled settled m.packets (λ t known. (known, express_same w g h a t (λ p. waiting_same g h a p t bs (rings p)))) m.waits;
 }
 
-pub entered : (w : Scenario) (h es : History) (a now : ℕ) (calls : List Call) → Begins (h ++ es) a ≡ Begins h a → Ends (h ++ es) a ≡ Ends h a → ((t : ℕ) → t < now → AllLater t es)
+pub entered : (w : Scenario) (h es : History) (a now : ℕ) (calls : List Call) → Begins (h ++ es) a ≡ Begins h a → Ends (h ++ es) a ≡ Ends h a → ((t : ℕ) → t < now → AreLater w t es)
     → Matches w h a now true calls → Matches w (h ++ es) a now false calls
 entered w h es a now calls bs ends later m = record {
   packets = m.packets;
   sending = m.sending;
   agree = subst (λ xs. Agree w m.packets xs (Ends (h ++ es) a)) (sym bs) (subst (Agree w m.packets (Begins h a)) (sym ends) m.agree);
-  waits = waits_same w (h ++ es) h a now true false m.packets (λ t known. (tt, express_same w (h ++ es) h a t (λ p. waiting_later h es a p t (later t known)))) m.waits;
+  waits = waits_same w (h ++ es) h a now true false m.packets (λ t known. (tt, express_same w (h ++ es) h a t (λ p. waiting_later h es a p t (later_read w t es (later t known))))) m.waits;
 }
 
 -- ---- an end

@@ -7,7 +7,7 @@ ghost use Rattle.pre_history.specs.Octets.{ToldActive};
 ghost use Rattle.pre_history.specs.Queries.{Begins, Ends, Entries, Occupied};
 ghost use Rattle.pre_history.specs.Legal.{LegalUpTo};
 ghost use Rattle.pre_history.specs.Moments.{Phase};
-ghost use Rattle.pre_history.specs.Placed.{AllLater, number};
+ghost use Rattle.pre_history.specs.Placed.{AreLater, number};
 ghost use Rattle.pre_history.specs.Rules.{HappensIn};
 ghost use Rattle.pre_history.specs.Starts.{Choice as Start, Item, There};
 ghost use Rattle.pre_outgoing.specs.Sends.{Sends};
@@ -20,7 +20,7 @@ pub fn other_events()
         → ((p : ℕ) → Entries g a p ≡ Entries h a p) → ((t : ℕ) → t < now → ToldActive w g a t ≡ ToldActive w h a t)
         → Sends w h a now settled o → Sends w g a now settled o }
     ensures entries { (w : Scenario) (h es : History) (a now : ℕ) (o : Outgoing) → Begins (h ++ es) a ≡ Begins h a → Ends (h ++ es) a ≡ Ends h a
-        → ((t : ℕ) → t < now → AllLater t es) → ((t : ℕ) → t < now → ToldActive w (h ++ es) a t ≡ ToldActive w h a t)
+        → ((t : ℕ) → t < now → AreLater w t es) → ((t : ℕ) → t < now → ToldActive w (h ++ es) a t ≡ ToldActive w h a t)
         → Sends w h a now true o → Sends w (h ++ es) a now false o }
     ensures idle { (w : Scenario) (h : History) (a now t : ℕ) (o : Outgoing) → now ≤ t → Sends w h a now true o → Sends w h a t true o }
 {}

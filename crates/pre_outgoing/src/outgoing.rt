@@ -1,5 +1,6 @@
 ghost use Rattle.std.specs.Prelude.{◌≡◌, ◌≢◌, ◌↔◌, ◌+◌, ◌*◌, ◌^◌, ◌<◌, ◌≤◌, ℕ, Bool, true, false, IsTrue, IsFalse, IsSome, List, Option, Some, option_map, [], ◌∷◌, ◌++◌, length, replicate};
 ghost use Rattle.std.specs.Bool.{Decides};
+ghost use Rattle.pre_base.specs.declared.limits.TheConstants.{GREATEST_FRAME};
 ghost use Rattle.pre_mpacket.specs.Arrivals.{is_continue};
 ghost use Rattle.pre_mpacket.specs.Spelling.{PlainPacket, IsWhole};
 ghost use Rattle.pre_send.specs.Calls.{Call, begun};
@@ -207,7 +208,7 @@ impl Outgoing {
             → HasEnded w past now.0 a e result self.new }
         ensures frames { frames_of self.old.sender ≡ frames_done result.done ++ frames_of self.new.sender }
         ensures least { 64 ≤ result.size }
-        ensures most { result.size ≤ 1522 }
+        ensures most { result.size ≤ GREATEST_FRAME }
     {
         let what = self.carried;
         let Sent {

@@ -1,11 +1,12 @@
 ghost use Rattle.std.specs.Prelude.{◌≡◌, ◌≤◌, true, IfSome, length};
+ghost use Rattle.pre_base.specs.declared.limits.TheConstants.{GREATEST_FRAME};
 ghost use Rattle.pre_rings.specs.Stores.{HoldsFrame};
 ghost use Rattle.pre_send.specs.Owned.{frames_of, frames_chosen};
 ghost use Rattle.pre_send.specs.Senders.{MayBegin};
 ghost use Rattle.pre_outgoing.specs.Sends.{AreHeld, IsLldp};
 
 use super::*;
-use pre_base::{FrameNo, Prio, Tick};
+use pre_base::{FrameNo, GREATEST_FRAME, Prio, Tick};
 use pre_history::What;
 use pre_mpacket::Kind;
 use pre_rings::{FrameRef, FrameStore};
@@ -17,7 +18,7 @@ const LATEST: u64 = 1_000_000;
 
 // Frame 5, of these octets, which the store then holds.
 fn frame_in(store: &mut FrameStore, octets: &[u8]) -> Option<FrameRef>
-    requires { length octets.now ≤ 1522 }
+    requires { length octets.now ≤ GREATEST_FRAME }
     ensures { IfSome result (λ f. HoldsFrame store.new f) }
 {
     let slot = store.take_slot()?;
@@ -36,8 +37,8 @@ fn may_begin(out: &Outgoing, choice: &Choice) -> bool
     ensures other { result ≡ true → ¬ IsLldp choice.now }
 {
     match choice {
-        Choice::Express(frame) | Choice::Whole(frame) => frame.size >= 64 && frame.size <= 1522,
-        Choice::First(frame) => frame.size >= 64 && frame.size <= 1522 && !out.is_interrupted(),
+        Choice::Express(frame) | Choice::Whole(frame) => frame.size >= 64 && frame.size <= GREATEST_FRAME,
+        Choice::First(frame) => frame.size >= 64 && frame.size <= GREATEST_FRAME && !out.is_interrupted(),
         Choice::Rest => out.is_interrupted(),
         Choice::Verify | Choice::Respond => true,
         Choice::Lldp => false,

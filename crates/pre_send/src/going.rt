@@ -1,4 +1,5 @@
 ghost use Rattle.std.specs.Prelude.{◌≡◌, ◌+◌, ◌^◌, ◌≤◌, ◌<◌, length, replicate};
+ghost use Rattle.pre_base.specs.declared.limits.TheConstants.{GREATEST_FRAME};
 ghost use Rattle.pre_mpacket.specs.Spelling.{PlainPacket, IsWhole};
 ghost use Rattle.pre_send.specs.Tasks.{task_kind, task_size, TaskTold};
 ghost use Rattle.pre_send.specs.Packets.{in_one_piece, bare};
@@ -30,7 +31,7 @@ pub(crate) struct Going {
     pub waits: Option<u64>,
     ghost began_within: { began ≤ 10 ^ 18 },
     ghost size_least: { 64 ≤ task_size task },
-    ghost size_most: { task_size task ≤ 1522 },
+    ghost size_most: { task_size task ≤ GREATEST_FRAME },
 }
 
 impl Task {
@@ -112,10 +113,10 @@ fn task_told(task: Task, began: u64, waits: u64, cost: u64, add_frag: u8) -> Tas
     requires add_frag { add_frag ≤ 3 }
     requires waits { waits ≤ 10 ^ 18 }
     requires size { 64 ≤ task_size task }
-    requires most { task_size task ≤ 1522 }
+    requires most { task_size task ≤ GREATEST_FRAME }
     ensures told { TaskTold task result began waits cost add_frag }
     ensures size { 64 ≤ task_size result }
-    ensures most { task_size result ≤ 1522 }
+    ensures most { task_size result ≤ GREATEST_FRAME }
 {
     match task {
         Task::Fragment(piece) => Task::Fragment(piece.told(began, waits, cost, add_frag)),

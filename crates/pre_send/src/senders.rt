@@ -195,7 +195,7 @@ impl Sender {
         ensures sent { (cost add_frag : ℕ) (calls : List Call) → Stands self.old cost add_frag calls → Ends cost add_frag (calls ++ ended now.0 store.now ∷ []) result }
         ensures frames { frames_of self.old ≡ frames_done result.done ++ frames_of self.new }
         ensures least { 64 ≤ result.size }
-        ensures most { result.size ≤ 1522 }
+        ensures most { result.size ≤ GREATEST_FRAME }
     {
         let Some(going) = self.going.take() else {
             unreachable!()
@@ -276,7 +276,7 @@ impl Sender {
         requires { MayBegin self.old choice }
         ensures chooses { Chooses choice self.old self.new result }
         ensures size { 64 ≤ task_size result }
-        ensures size_most { task_size result ≤ 1522 }
+        ensures size_most { task_size result ≤ GREATEST_FRAME }
     {
         match choice {
             Choice::Express(frame) => Task::Frame(frame),
@@ -295,7 +295,7 @@ impl Sender {
         requires most { frame.size ≤ GREATEST_FRAME }
         ensures first { Firsts self.old self.new frame result }
         ensures size { 64 ≤ task_size result }
-        ensures size_most { task_size result ≤ 1522 }
+        ensures size_most { task_size result ≤ GREATEST_FRAME }
     {
         let frame_count = self.frame_count;
         self.frame_count = (frame_count + 1) % 4;
@@ -315,7 +315,7 @@ impl Sender {
         requires { is_interrupted self.old ≡ true }
         ensures rest { Rests self.old self.new result }
         ensures size { 64 ≤ task_size result }
-        ensures size_most { task_size result ≤ 1522 }
+        ensures size_most { task_size result ≤ GREATEST_FRAME }
     {
         match self.kept.take() {
             Some(piece) => Task::Fragment(piece),
