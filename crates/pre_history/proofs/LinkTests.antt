@@ -4,7 +4,6 @@ use Rattle.std.specs.Prelude.{◌↔◌}
 use Rattle.std.specs.Bool.{Decides}
 use Rattle.std.specs.List.{AllZip}
 use Rattle.std.proofs.lemmas.Bool.{and_parts}
-use Rattle.std.proofs.lemmas.Bool.Decides.{nat_tests}
 use Rattle.pre_topo.specs.declared.arcs.Mode.TheVariants as mode
 use Rattle.pre_topo.specs.Arcs.{reverse_of}
 use Rattle.pre_script.specs.declared.scripts.Setting.TheVariants as setting
@@ -22,9 +21,7 @@ use Rattle.pre_history.proofs.Arrived.{OneGiven}
 use Rattle.pre_history.proofs.Chosen.{from_filter, last_there}
 use Rattle.pre_history.proofs.Unread.{verified_like}
 use Rattle.pre_base.specs.Last.{last}
-
-by_then : (m n : ℕ) → nat_le m n ≡ true → m ≤ n
-by_then m n is = grind (arith, nat_tests)
+use Rattle.pre_history.proofs.NatTests.{by_then}
 
 some_time : (t s ttl unit : ℕ) → s ≤ t → t < s + ttl * unit → 0 < ttl
 some_time t s zero unit by lt = absurd (omega (arith, by, lt))

@@ -27,6 +27,7 @@ use Rattle.pre_history.proofs.Fronts.{IsRight, EntersRight, BeginsRight, IsWhole
 use Rattle.pre_history.proofs.Undamaged.{user_frame}
 use Rattle.pre_history.proofs.PairFacts.{express_four, SendsAtStart, cost_one, far_end, first_ab, on_ab, no_next, prio_six, no_delay, frame_size}
 use Rattle.pre_history.proofs.Quiet.{selected, comings_are, not_due}
+use Rattle.pre_history.proofs.NatTests.{cases_eq}
 
 pub from_two : (w : Scenario) → SendsTwoFrames w → SendsAtStart w
 from_two w s = record {
@@ -75,9 +76,6 @@ both_gone t true true lt =
     rw (early, early', by) refl
 both_gone t true false lt = refl
 both_gone t false c lt = refl
-
-cases_eq : (m n : ℕ) → (m ≡ n) ⊎ (m ≢ n)
-cases_eq m n = grind arith
 
 no_eq : (m n : ℕ) → m ≢ n → (m == n) ≡ false
 no_eq m n e = grind (arith, nat_tests)

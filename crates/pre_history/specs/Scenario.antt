@@ -1,5 +1,5 @@
 -- What a run is given: a network, streams and a script that fit each other.
-use Rattle.std.specs.Prelude.{ℕ, List, [], ◌∷◌, slice_index, slice_index_or, slice_get, IsSome, Option, Some, None}
+use Rattle.std.specs.Prelude.{ℕ, List, [], slice_index, slice_index_or, slice_get, IsSome, Option, None}
 use Rattle.std.specs.Option.{option_map_or}
 use Rattle.pre_base.specs.declared.numbers.NodeId.{NodeId}
 use Rattle.pre_topo.specs.declared.network.Network.{Network}

@@ -1,35 +1,31 @@
 -- Where nothing is damaged and no fragment is lost, each arrival gives what was sent: none is an alias.
-use Rattle.std.proofs.Common.{ℕ, zero, suc, ◌≡◌, ◌≢◌, ◌⊎◌, ◌==◌, ◌&&◌, ◌+◌, ◌-◌, ◌<◌, ◌≤◌, Bool, true, false, List, [], ◌∷◌, ◌++◌, length, take, drop, refl, sym, ◌∙◌, ap, inl, inr, arith, subst, Option, Some, None, map, filter}
-use Rattle.std.specs.Prelude.{if◌then◌else◌, slice_get, option_map, option_and_then, All, IsTrue, nat_lt}
+use Rattle.std.proofs.Common.{ℕ, suc, ◌≡◌, ◌≢◌, ◌==◌, ◌+◌, ◌-◌, ◌<◌, ◌≤◌, Bool, true, false, List, [], ◌∷◌, ◌++◌, length, take, drop, refl, sym, ◌∙◌, ap, inl, inr, arith, subst, Option, Some, None, map, filter}
+use Rattle.std.specs.Prelude.{if◌then◌else◌, slice_get, option_map, option_and_then, nat_lt}
 use Rattle.std.specs.List.{list_any}
-use Rattle.std.proofs.lemmas.Bool.{cases_lt, and_parts}
+use Rattle.std.proofs.lemmas.Bool.{and_parts}
 use Rattle.std.proofs.lemmas.Bool.Decides.{nat_tests}
 use Rattle.std.proofs.lemmas.List.{length-take-le, take-append-drop}
-use Rattle.pre_base.specs.declared.numbers.FrameNo.{FrameNo}
 use Rattle.pre_crc.specs.Checks.{Fcs, Mcrc}
 use Rattle.pre_crc.proofs.CheckFacts.{Fcs-differs}
-use Rattle.pre_topo.specs.declared.arcs.Mode.{Mode}
 use Rattle.pre_topo.specs.declared.arcs.Mode.TheVariants as mode
 use Rattle.pre_script.specs.declared.scripts.Loss.{Loss}
-use Rattle.pre_mpacket.specs.declared.packets.Kind.{Kind}
 use Rattle.pre_mpacket.specs.declared.packets.Kind.TheVariants as kind
 use Rattle.pre_mpacket.specs.Spelling.{PlainPacket, mpacket_of}
 use Rattle.pre_mpacket.specs.Pieces as pieces
-use Rattle.pre_mpacket.specs.Arrivals.{Given, Gives, GivesAs, Spelled, HasKind, Fragments, Data, Chain, EndsChain, IsChain, is_start, is_fragment}
+use Rattle.pre_mpacket.specs.Arrivals.{Given, Gives, GivesAs, Spelled, Fragments, Data, Chain, EndsChain, IsChain, is_start, is_fragment}
 use Rattle.pre_mpacket.proofs.Chains.{start_is_one}
-use Rattle.pre_history.specs.declared.events.What.{What}
 use Rattle.pre_history.specs.declared.events.What.TheVariants as what
-use Rattle.pre_history.specs.Scenario.{Scenario, arc, no_arc, FrameOf}
-use Rattle.pre_history.specs.History.{History, Begin, Ended, Arrive}
-use Rattle.pre_history.specs.Selected.{arrive_on}
-use Rattle.pre_history.specs.Queries.{Begins, Ends, Arrivals, Packet, packet, end_of, fragment_data, joined_data, last_check, LastRun, PacketsBefore, Packets}
+use Rattle.pre_history.specs.Scenario.{Scenario, arc, FrameOf}
+use Rattle.pre_history.specs.History.{History, Begin, Ended, Arrive, PlainEvent}
+use Rattle.pre_history.specs.Selected.{arrive_on, begin_on}
+use Rattle.pre_history.specs.Queries.{Begins, Ends, Arrivals, Packet, packet, end_of, joined_data, last_check, PacketsBefore, Packets}
 use Rattle.pre_history.specs.Octets.{WholeOf, Air, is_lost, names_loss, names_damage, Damaged, Sent}
 use Rattle.pre_history.specs.LinkState.{Active, ActiveIn}
-use Rattle.pre_history.specs.Starts.{Item, Choice, There, SizeOf}
-use Rattle.pre_history.specs.Rules.{CheckOf, last_four}
-use Rattle.pre_history.specs.Placed.{IsBefore}
-use Rattle.pre_history.specs.Legal.{LegalUpTo, LegalBefore, Legal, Alias, IsOfKind, IsLastOf, FirstAliasAt}
-use Rattle.pre_history.proofs.Lists.{there, within, every_at, every_selected, one_at}
+use Rattle.pre_history.specs.Starts.{Item, Choice, There}
+use Rattle.pre_history.specs.Rules.{last_four}
+use Rattle.pre_history.specs.Placed.{IsBefore, IsAt}
+use Rattle.pre_history.specs.Legal.{LegalUpTo, LegalBefore, Legal, Alias, IsLastOf}
+use Rattle.pre_history.proofs.Lists.{there, within, every_at, every_selected}
 use Rattle.pre_history.proofs.Zips.{every_of_all}
 use Rattle.pre_history.proofs.Chosen.{from_filter}
 use Rattle.pre_history.proofs.LaterEnds.{packet_back}
@@ -39,13 +35,14 @@ use Rattle.pre_history.proofs.InOrder.{steady}
 use Rattle.pre_history.proofs.FirstAliases.{arrives_within}
 use Rattle.pre_history.proofs.Totals.{some_history}
 use Rattle.pre_laws.specs.Routed.{IsRouted}
-use Rattle.pre_laws.specs.Parts.{RunTo, plain_of, IsKept, KeepsFragments}
+use Rattle.pre_laws.specs.Parts.{RunTo, plain_of, KeepsFragments, LosesNoFragment}
 use Rattle.pre_laws.proofs.Begun.{choice_of, by_item}
 use Rattle.pre_laws.proofs.Routed.{from_last_first}
-use Rattle.pre_laws.proofs.Runs.{is_eq, no_eq, end_is}
+use Rattle.pre_laws.proofs.Runs.{end_is}
 use Rattle.pre_laws.proofs.RunSteps.{Run, fragment_at, frame_long, whole_is, checked_as, all_sent, last_check_at, finished}
 use Rattle.pre_laws.proofs.Parts.{joined_plain, continued_plain, checked_plain}
 use Rattle.pre_laws.proofs.Reassembled.{told, spelled, size_fits, from_start, whole_size, fragments_so}
+use Rattle.pre_history.proofs.NatTests.{is_eq}
 
 any_true : {X : Type 0} (test : X → Bool) (xs : List X) → list_any test xs ≡ true → (i : ℕ) × (x : X) × (slice_get xs i ≡ Some x) × (test x ≡ true)
 any_true test [] is = absurd (cc is)
@@ -105,16 +102,16 @@ module _ (w : Scenario) (routed : IsRouted w) (keeps : KeepsFragments w) (n : �
       same_arc : (x y : ℕ) → (x == y) ≡ true → x ≡ y
       same_arc x y e = grind (arith, nat_tests)
 
-  undamaged : (d : Begin) → filter (names_damage d) w.script.damages ≡ []
-  undamaged d = ap (filter (names_damage d)) keeps.undamaged
-
-  -- on an arc with a fragment each is kept
-  all_kept : (i : ℕ) (b : Begin) → slice_get (Begins h a) i ≡ Some b → is_fragment b.kind ≡ true → (k : ℕ) (c : Begin) → slice_get (Begins h a) k ≡ Some c → IsKept w c
-  all_kept i b at on k c at_c = (go (is_lost w c) refl, undamaged c)
+  pub none_lost : (i : ℕ) (b : Begin) → slice_get (Begins h a) i ≡ Some b → is_fragment b.kind ≡ true → is_lost w b ≡ false
+  none_lost i b at on = go (is_lost w b) refl
     where
-      go : (x : Bool) → is_lost w c ≡ x → is_lost w c ≡ false
+      go : (x : Bool) → is_lost w b ≡ x → is_lost w b ≡ false
       go false kept = kept
-      go true lost = let none = no_fragment (lost_off k c at_c lost) i b at in absurd (cc (sym none ∙ on))
+      go true lost = let none = no_fragment (lost_off i b at lost) i b at in absurd (cc (sym none ∙ on))
+
+module _ (w : Scenario) (routed : IsRouted w) (none_damaged : w.script.damages ≡ []) (n : ℕ) (h : History) (legal : LegalUpTo w n h) (kept_fragments : LosesNoFragment w h) (a : ℕ) (a_lt : a < length w.net.arcs) where
+  undamaged : (d : Begin) → filter (names_damage d) w.script.damages ≡ []
+  undamaged d = ap (filter (names_damage d)) none_damaged
 
   -- ---- what arrives
 
@@ -176,7 +173,7 @@ module _ (w : Scenario) (routed : IsRouted w) (keeps : KeepsFragments w) (n : �
         parts : Fragments (Air w h a) r.first_place i ≡ map (plain_of w h) (RunTo h a (suc i))
         unfolding r
         parts =
-            fragments_so w routed n h legal a a_lt i e over r.first_place r.frame (λ k c at_c carries. all_kept i b at on k c at_c) (λ k c low high at_c. undamaged c) (suc i) i b
+            fragments_so w routed n h legal a a_lt i e over r.first_place r.frame (λ k c at_c on_c carries. (kept_fragments a k c at_c on_c, undamaged c)) (λ k c low high at_c. undamaged c) (suc i) i b
             (omega arith) (omega arith) at on r.carries r.first r.first_begun r.first_carries r.first_from
 
         all_is : RunTo h a (suc i) ≡ r.before ++ packet h a b ∷ []
@@ -208,7 +205,7 @@ module _ (w : Scenario) (routed : IsRouted w) (keeps : KeepsFragments w) (n : �
               low,
               (
                 told w routed n h legal a a_lt r.first_place r.first x.0 r.first_begun x.1,
-                spelled w routed n h legal a a_lt r.first_place r.first x.0 r.first_begun x.1 (all_kept i b at on r.first_place r.first r.first_begun),
+                spelled w routed n h legal a a_lt r.first_place r.first x.0 r.first_begun x.1 (kept_fragments a r.first_place r.first r.first_begun (ap is_fragment r.first_kind), undamaged r.first),
                 ap is_start r.first_kind,
               ),
               (sent_as, spells_it, on),
@@ -270,24 +267,52 @@ module _ (w : Scenario) (routed : IsRouted w) (keeps : KeepsFragments w) (n : �
             nothing (inr (inr (octets, gives, other))) = lost_gives lost (Given.frame octets) gives
 
 -- none of what ended is an alias
-pub no_alias_ended : (w : Scenario) → IsRouted w → KeepsFragments w → (n : ℕ) (h : History) → LegalUpTo w n h → (a : ℕ) → a < length w.net.arcs → (i : ℕ) → i < length (Ends h a) → ¬ Alias w h a i
-no_alias_ended w routed keeps n h legal a a_lt i lt =
+pub no_alias_ended : (w : Scenario) → IsRouted w → w.script.damages ≡ [] → (n : ℕ) (h : History) → LegalUpTo w n h → LosesNoFragment w h → (a : ℕ) → a < length w.net.arcs → (i : ℕ) → i < length (Ends h a) → ¬ Alias w h a i
+no_alias_ended w routed none n h legal kept a a_lt i lt =
     let e = there (Ends h a) i lt in
     let b = there (Begins h a) i (let more = (steady w n h a a_lt legal).ordered.ends_begun in omega (arith, lt, more)) in
-    no_alias_at w routed keeps n h legal a a_lt i b.0 e.0 b.1 e.1
+    no_alias_at w routed none n h legal kept a a_lt i b.0 e.0 b.1 e.1
 
-pub legal_before : (w : Scenario) → IsRouted w → KeepsFragments w → (n : ℕ) (h : History) → LegalUpTo w n h → LegalBefore w h n
-legal_before w routed keeps n h legal = (legal, none)
+pub legal_before : (w : Scenario) → IsRouted w → w.script.damages ≡ [] → (n : ℕ) (h : History) → LegalUpTo w n h → LosesNoFragment w h → LegalBefore w h n
+legal_before w routed undamaged n h legal kept = (legal, none)
   where
     none : (a i : ℕ) → i < length (Arrivals h a) → ¬ Alias w h a i
     none a i lt =
         let x = there (Arrivals h a) i lt in
         let known : a < length w.net.arcs = every_at (λ (x : Arrive). a < length w.net.arcs) (Arrivals h a) i x.0
         (every_selected (arrive_on a) (IsBefore (length w.net.arcs) n) (λ x. a < length w.net.arcs) (arrives_within (length w.net.arcs) n a) h (placed w n h legal)) x.1 in
-        no_alias_ended w routed keeps n h legal a known i (let ended = (steady w n h a known legal).ordered.arrivals_ended in omega (arith, lt, ended))
+        no_alias_ended w routed undamaged n h legal kept a known i (let ended = (steady w n h a known legal).ordered.arrivals_ended in omega (arith, lt, ended))
+
+-- arcs of what began are the network's
+begun_known : (w : Scenario) (n : ℕ) (h : History) → LegalUpTo w n h → (a i : ℕ) (b : Begin) → slice_get (Begins h a) i ≡ Some b → a < length w.net.arcs
+begun_known w n h legal a i b at =
+    every_at (λ (b : Begin). a < length w.net.arcs) (Begins h a) i b (every_selected (begin_on a) (IsBefore (length w.net.arcs) n) (λ b. a < length w.net.arcs) (begins_within (length w.net.arcs) n a) h (placed w n h legal)) at
+  where
+    begins_within : (arcs n a : ℕ) (e : PlainEvent) (b : Begin) → IsBefore arcs n e → begin_on a e ≡ Some b → a < arcs
+    begins_within arcs n a e b (m, lt, stands) is = go e stands is
+      where
+        go : (e : PlainEvent) → IsAt arcs m e → begin_on a e ≡ Some b → a < arcs
+        go (PlainEvent.begin c) (c_lt, at) is = by_arc (c.arc == a) refl is
+          where
+            by_arc : (same : Bool) → (c.arc == a) ≡ same → (if same then Some c else None) ≡ Some b → a < arcs
+            by_arc false off is = absurd (cc is)
+            by_arc true on is = let arc_is : c.arc ≡ a = grind (arith, nat_tests) in omega (arith, arc_is, c_lt)
+        go (PlainEvent.set s c v) at is = absurd (cc is)
+        go (PlainEvent.ended c) at is = absurd (cc is)
+        go (PlainEvent.arrive c) at is = absurd (cc is)
+        go (PlainEvent.deliver c) at is = absurd (cc is)
+        go (PlainEvent.active s c v) at is = absurd (cc is)
+        go (PlainEvent.enter c) at is = absurd (cc is)
+        go (PlainEvent.dropped c) at is = absurd (cc is)
+        go (PlainEvent.count s c) at is = absurd (cc is)
+        go (PlainEvent.end c) at is = absurd (cc is)
+
+pub loses_none : (w : Scenario) → IsRouted w → KeepsFragments w → (n : ℕ) (h : History) → LegalUpTo w n h → LosesNoFragment w h
+loses_none w routed keeps n h legal a i b at on = none_lost w routed keeps n h legal a (begun_known w n h legal a i b at) i b at on
 
 pub legal_history : (w : Scenario) → IsRouted w → KeepsFragments w → (h : History) × Legal w h
 legal_history w routed keeps = elim (some_history w) [
   | inl some ↦ some
-  | inr (h, t, a, i, (by, a_lt, before, (e, at, due, alias))) ↦ absurd (no_alias_ended w routed keeps _ h before.0 a a_lt i (within (Ends h a) i e at) alias)
+  | inr (h, t, a, i, (by, a_lt, before, (e, at, due, alias))) ↦
+      absurd (no_alias_ended w routed keeps.undamaged _ h before.0 (loses_none w routed keeps _ h before.0) a a_lt i (within (Ends h a) i e at) alias)
 ]

@@ -27,10 +27,10 @@ use Rattle.pre_history.proofs.Placing.{begins_arc}
 use Rattle.pre_history.proofs.Undamaged.{length-FrameOf}
 use Rattle.pre_history.proofs.InOrder.{steady}
 use Rattle.pre_laws.specs.Routed.{IsRouted}
-use Rattle.pre_history.proofs.Zips.{every_of_all}
 use Rattle.pre_laws.proofs.Begun.{choice_of, by_item}
 use Rattle.pre_laws.proofs.Routed.{BegunRight, begins_right, all_right}
-use Rattle.pre_laws.proofs.Runs.{IsRun, passes, run_to, run_is, run_other, run_new, run_more, end_is, check_of, checked_push, continued_push, every_push, fragment_size, is_begun_start, is_begun_fragment, no_eq, is_eq}
+use Rattle.pre_laws.proofs.Runs.{IsRun, passes, run_to, run_is, run_other, run_new, run_more, end_is, check_of, checked_push, continued_push, every_push, fragment_size, is_begun_start, is_begun_fragment, no_eq}
+use Rattle.pre_history.proofs.NatTests.{is_eq}
 
 take_none : (l : List ℕ) → take 0 l ≡ []
 take_none [] = refl

@@ -73,6 +73,10 @@ pub record IsLeft (w : Scenario) (h : History) (a t : ℕ) (left : Rest) : Type 
   pub least : least_fragment (arc w a).add_frag ≤ ended.size - 4
   pub more : left.from + 64 ≤ length (FrameOf w left.frame)
 
+-- No fragment that began is lost.
+abbrev pub LosesNoFragment : Scenario → History → Type 0
+LosesNoFragment w h = (a i : ℕ) (b : Begin) → slice_get (Begins h a) i ≡ Some b → is_fragment b.kind ≡ true → is_lost w b ≡ false
+
 -- No line of the script damages an mPacket, and those that it loses are on arcs that never preempt.
 pub record KeepsFragments (w : Scenario) : Type 0 where
   pub undamaged : w.script.damages ≡ []

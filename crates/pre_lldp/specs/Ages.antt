@@ -1,5 +1,5 @@
 -- How long an advert counts.
-use Rattle.std.specs.Prelude.{◌≡◌, ℕ, ◌+◌, ◌*◌, ◌<◌, ◌==◌, true, if◌then◌else◌, List, [], ◌∷◌, Option, Some, None}
+use Rattle.std.specs.Prelude.{◌≡◌, ℕ, ◌+◌, ◌*◌, ◌<◌, ◌==◌, true, if◌then◌else◌, List, Option, Some, None}
 use Rattle.pre_lldp.specs.declared.adverts.Advert.{Advert}
 use Rattle.pre_base.specs.Last.{last}
 
