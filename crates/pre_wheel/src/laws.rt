@@ -17,8 +17,12 @@ pub fn skipping_law()
 /// A machine that stands on the wheel with the tick at which it is due tells, before the least entry's tick, what it told
 /// at its last call; and so at every later tick where the wheel has no entry.
 pub fn machines_stay<M: Timed>()
-    ensures least { (dues : Dues) (first tick member t : ℕ) (machine : M) → IsLeast dues first tick → map.get dues.due member ≡ option_map (λ d. d.0) (M.falls_due machine) → M.last machine < t → t < tick → M.told machine t ≡ M.told machine (M.last machine) }
-    ensures none { (dues : Dues) (member t : ℕ) (machine : M) → IsEmpty dues → map.get dues.due member ≡ option_map (λ d. d.0) (M.falls_due machine) → M.last machine < t → M.told machine t ≡ M.told machine (M.last machine) }
+    ensures least { (dues : Dues) (first tick member t : ℕ) (machine : M)
+        → IsLeast dues first tick → map.get dues.due member ≡ option_map (λ d. d.0) (M.falls_due machine)
+        → M.last machine < t → t < tick → M.told machine t ≡ M.told machine (M.last machine) }
+    ensures none { (dues : Dues) (member t : ℕ) (machine : M)
+        → IsEmpty dues → map.get dues.due member ≡ option_map (λ d. d.0) (M.falls_due machine)
+        → M.last machine < t → M.told machine t ≡ M.told machine (M.last machine) }
 {
     skipping_law();
 }

@@ -36,7 +36,9 @@ impl Timed for Alarm {
 
 // An alarm on a wheel rings at no tick below the least entry's where it didn't ring before.
 fn alarms_stay()
-    ensures { (dues : Dues) (first tick member t : ℕ) (a : Alarm) → IsLeast dues first tick → map.get dues.due member ≡ option_map (λ d. d.0) a.at → a.called.0 < t → t < tick → is_over a.at t ≡ is_over a.at a.called.0 }
+    ensures { (dues : Dues) (first tick member t : ℕ) (a : Alarm)
+        → IsLeast dues first tick → map.get dues.due member ≡ option_map (λ d. d.0) a.at
+        → a.called.0 < t → t < tick → is_over a.at t ≡ is_over a.at a.called.0 }
 {
     machines_stay::<Alarm>();
 }
