@@ -70,3 +70,4 @@ pub mod IsLater
 pub mod Rising
 pub mod WrittenEvents
 pub mod NatTests
+pub mod LostFrame
