@@ -1,5 +1,5 @@
 -- The history of one express frame that is lost is legal.
-use Rattle.std.proofs.Common.{ℕ, zero, suc, ◌≡◌, ◌≢◌, ◌==◌, ◌+◌, ◌*◌, ◌<◌, ◌≤◌, nat_le, Bool, true, List, [], ◌∷◌, ◌++◌, length, refl, sym, ◌∙◌, ap, inl, inr, arith, subst, Option, Some, None, false}
+use Rattle.std.proofs.Common.{ℕ, zero, suc, ◌≡◌, ◌≢◌, ◌==◌, ◌+◌, ◌*◌, ◌<◌, nat_le, Bool, true, List, [], ◌∷◌, ◌++◌, length, refl, sym, ◌∙◌, ap, inl, inr, arith, subst, Some, None, false}
 use Rattle.std.specs.Prelude.{if◌then◌else◌, slice_get, count_by, option_map, option_and_then}
 use Rattle.std.specs.List.{list_any, AllByRecursion as Every}
 use Rattle.pre_script.specs.declared.scripts.SendLine.{SendLine}
@@ -16,7 +16,7 @@ use Rattle.pre_history.specs.Queries.{Begins, Ends, Arrivals, Waiting, packet}
 use Rattle.pre_history.specs.Octets.{Air, names_loss, is_lost, Damaged, Sent}
 use Rattle.pre_history.specs.Rules.{EndDue, HappensIn}
 use Rattle.pre_history.specs.Legal.{LegalUpTo, Legal, Alias, CountsOf, CountLines, last_moment}
-use Rattle.pre_history.specs.Examples.{SendsFirst, LosesOneFrame, entered, first_begin, first_end, lost, lost_frame_body, lost_frame}
+use Rattle.pre_history.specs.Examples.{LosesOneFrame, first_begin, first_end, lost, lost_frame_body, lost_frame}
 use Rattle.pre_history.proofs.Arrived.{lost_gives_nothing}
 use Rattle.pre_history.proofs.Undamaged.{air_at}
 use Rattle.pre_history.proofs.Fronts.{IsRight}
