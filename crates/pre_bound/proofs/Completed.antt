@@ -1,12 +1,12 @@
 -- A good certificate leaves no port that passes the limit, and no ring that is too small.
-use Rattle.std.proofs.Common.{◌≡◌, ℕ, zero, suc, ◌+◌, ◌*◌, ◌/◌, ◌%◌, ◌<◌, ◌≤◌, Bool, true, false, cond, List, [], ◌∷◌, ◌++◌, Some, refl, sym, ◌∙◌, ap, subst, arith, inl, inr, length, get_or, map, take}
-use Rattle.std.specs.Prelude.{slice_get, sum_by, filter, Contains, All, IsSome, nat_lt}
+use Rattle.std.proofs.Common.{◌≡◌, ℕ, zero, suc, ◌+◌, ◌*◌, ◌/◌, ◌%◌, ◌<◌, ◌≤◌, Bool, true, false, List, [], ◌∷◌, ◌++◌, Some, refl, sym, ◌∙◌, ap, subst, arith, length, get_or, map, take}
+use Rattle.std.specs.Prelude.{slice_get, sum_by, Contains, All, IsSome, nat_lt}
 use Rattle.std.specs.List.{list_any, enumerate_from, flat_map, range_with_len}
-use Rattle.std.proofs.lemmas.Bool.{cases_Bool, or_from, false_from_ne_true, and_parts, ltb-true, true≢false}
+use Rattle.std.proofs.lemmas.Bool.{or_from, false_from_ne_true, and_parts, ltb-true, true≢false}
 use Rattle.std.proofs.lemmas.Option.{slice_get-get_or}
 use Rattle.std.proofs.lemmas.List.Sums.{sum_by-cons}
 use Rattle.std.proofs.lemmas.List.Elements.{All-nil, All-cons, All-head, All-tail}
-use Rattle.std.proofs.lemmas.List.FromFn.{get_or-range_with_len, length-range_with_len}
+use Rattle.std.proofs.lemmas.List.FromFn.{length-range_with_len}
 use Rattle.pre_base.specs.declared.numbers.ArcId.{ArcId}
 use Rattle.pre_base.specs.declared.numbers.StreamId.{StreamId}
 use Rattle.pre_topo.specs.declared.network.Network.{Network}

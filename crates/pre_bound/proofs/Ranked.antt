@@ -1,5 +1,5 @@
 -- The ranks of a certificate: where each arc has one, they are in order.
-use Rattle.std.proofs.Common.{◌≡◌, ℕ, zero, suc, ◌+◌, ◌<◌, Bool, true, false, cond, List, [], ◌∷◌, Some, None, is_some, refl, sym, ◌∙◌, ap, subst, arith, inl, inr, length, get_or, map, if◌then◌else◌}
+use Rattle.std.proofs.Common.{◌≡◌, ℕ, zero, suc, ◌<◌, Bool, true, false, cond, List, [], ◌∷◌, Some, None, is_some, refl, sym, ◌∙◌, ap, subst, arith, inl, inr, length, get_or, map, if◌then◌else◌}
 use Rattle.std.specs.Prelude.{slice_get, filter, All, IsSome}
 use Rattle.std.specs.List.{range_with_len}
 use Rattle.std.proofs.lemmas.Bool.{cases_Bool}
@@ -12,7 +12,7 @@ use Rattle.pre_streams.specs.declared.rows.Streams.{Streams}
 use Rattle.pre_streams.specs.Fits.{Fits}
 use Rattle.pre_bound.specs.declared.rows.ArcRow.{ArcRow}
 use Rattle.pre_bound.specs.declared.certificate.Certificate.{Certificate}
-use Rattle.pre_bound.specs.Uses.{Follows, has_arc}
+use Rattle.pre_bound.specs.Uses.{has_arc}
 use Rattle.pre_bound.specs.Values.{Values}
 use Rattle.pre_bound.specs.Good.{AreInOrder}
 use Rattle.pre_bound.specs.Settled.{PriosBelow}

@@ -128,13 +128,7 @@ fn version_of(arcs: &[ArcRow]) -> u64
 {
     match arcs {
         [] => 2,
-        [row, ..] => {
-            if row.rank.is_some() {
-                2
-            } else {
-                3
-            }
-        }
+        [row, ..] => { if row.rank.is_some() { 2 } else { 3 } }
     }
 }
 

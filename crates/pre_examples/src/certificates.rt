@@ -1,16 +1,16 @@
 //! Certificates of networks and streams, and why there are none.
 
-use crate::networks::{BRIDGED, DIRECT, NARROW};
+use crate::networks::{AREAS, BRIDGED, DIRECT, NARROW, SHORT_FRAMES, WHOLE_FRAMES};
 use crate::running::{assert_status, wide_sink, words_of};
-use crate::streams::{BY_BRIDGE, THREE_ROWS, TWO_ROWS};
+use crate::streams::{ACROSS_AREAS, BY_BRIDGE, THREE_ROWS, TWO_ROWS};
 use pre_base::{MemoryShelf, Sink};
 use pre_cli::{Status, due_certificates, preempt};
 use std::alloc::{AllocError, Global};
 use std::test::Fail;
 
 /// The built-in stream over the built-in link.
-const PAIR: &str = "certificate 1
-arc a>b 0
+const PAIR: &str = "certificate 2
+arc a>b 0 1522
 port a>b 6 143 2000 0 2143 2214
 hop x 0 2000
 bound x 2131
@@ -18,9 +18,9 @@ end
 ";
 
 /// Two arcs: the second delay is one tick longer, as the burst has grown by an octet.
-const TWO_HOPS: &str = "certificate 1
-arc a>m 0
-arc m>b 1
+const TWO_HOPS: &str = "certificate 2
+arc a>m 0 1522
+arc m>b 1 1522
 port a>m 6 143 84 0 227 84
 port m>b 6 143 85 0 228 85
 hop x 0 84
@@ -30,8 +30,8 @@ end
 ";
 
 /// A stream of priority 7 before one of priority 6.
-const TWO_PRIORITIES: &str = "certificate 1
-arc a>b 0
+const TWO_PRIORITIES: &str = "certificate 2
+arc a>b 0 1522
 port a>b 6 143 604 10000 754 84
 port a>b 7 143 520 0 663 526
 hop x 0 84
@@ -40,6 +40,52 @@ bound x 742
 bound z 651
 end
 ";
+
+/// A stream of short frames, before a flow whose frames are cut.
+const SHORT: &str = "certificate 2
+arc a>b 0 1522
+port a>b 6 143 84 0 227 84
+hop x 0 84
+bound x 215
+end
+";
+
+/// The same stream, where frames of up to 2000 octets go whole.
+const BEHIND_WHOLE_FRAMES: &str = "certificate 2
+arc a>b 0 2000
+port a>b 6 2020 84 0 2104 86
+hop x 0 84
+bound x 2092
+end
+";
+
+/// And where no frame has more than 100 octets, which is less than a fragment that can't be cut.
+const BEHIND_SHORT_FRAMES: &str = "certificate 2
+arc a>b 0 100
+port a>b 6 120 84 0 204 84
+hop x 0 84
+bound x 192
+end
+";
+
+/// Two arcs, of which a flow uses the second one.
+const FLOW_ON_ONE_ARC: &str = "certificate 2
+arc a>m 0 0
+arc m>b 1 1522
+port a>m 6 84 84 0 168 84
+port m>b 6 143 85 0 228 85
+hop x 0 84
+hop x 1 85
+bound x 472
+end
+";
+
+/// A stream of short frames, and behind it a flow with frames of up to this many octets.
+fn short_before(alloc: Global, max: u16) -> Result<String, AllocError> {
+    format!(in alloc;
+        "[[stream]]\nname = \"x\"\nvid = 10\nprio = 6\nroute = [\"a\", \"b\"]\nmax = 64\nburst = 84\nrate = 1000\n[[flow]]\nname = \"y\"\nvid = 20\nprio = 0\nroute = [\"a\", \"b\"]\nmax = {max}\n"
+    )
+}
 
 /// Streams that want all of an arc's time.
 const FULL: &str =
@@ -91,6 +137,46 @@ fn worked_certificates(rt: HostRuntime) -> Result<(), Fail> {
         assert_eq!(rt; sink.octets(), text.as_bytes());
     }
     due_certificates();
+    Ok(())
+}
+
+#[test]
+fn preemptable_frames_of_each_arc(rt: HostRuntime) -> Result<(), Fail> {
+    let alloc = rt.alloc();
+    for (net, max, text) in [
+        (DIRECT, 1522, SHORT),
+        (WHOLE_FRAMES, 2000, BEHIND_WHOLE_FRAMES),
+        (SHORT_FRAMES, 100, BEHIND_SHORT_FRAMES),
+    ] {
+        let streams = short_before(alloc, max)?;
+        let mut sink = wide_sink(alloc)?;
+        let words = "certify net streams";
+        let status = certified(alloc, net, streams.as_str(), words, &mut sink)?;
+        assert_eq!(rt; status.number(), 0, "{max}");
+        assert_eq!(rt; sink.octets(), text.as_bytes(), "{max}");
+    }
+    let mut sink = wide_sink(alloc)?;
+    let status = certified(alloc, AREAS, ACROSS_AREAS, "certify net streams", &mut sink)?;
+    assert_eq!(rt; status.number(), 0);
+    assert_eq!(rt; sink.octets(), FLOW_ON_ONE_ARC.as_bytes());
+    Ok(())
+}
+
+#[test]
+fn flows_that_a_link_refuses(rt: HostRuntime) -> Result<(), Fail> {
+    let alloc = rt.alloc();
+    let long = short_before(alloc, 2000)?;
+    let express = format!(in alloc;
+        "[[flow]]\nname = \"y\"\nvid = 20\nprio = 5\nroute = [\"a\", \"m\", \"b\"]\nmax = 1522\n"
+    )?;
+    for (net, streams, text) in [
+        (AREAS, express.as_str(), "rules streams flow 0 5"),
+        (DIRECT, long.as_str(), "rules streams flow 0 6"),
+    ] {
+        let mut sink = wide_sink(alloc)?;
+        let status = certified(alloc, net, streams, "certify net streams", &mut sink)?;
+        assert_status(&rt, alloc, &status, 5, text)?;
+    }
     Ok(())
 }
 

@@ -23,6 +23,18 @@ pub const BRIDGED: &str =
 pub const NARROW: &str =
     "express_from = 4\n[[node]]\nname = \"a\"\nkind = \"station\"\n[[node]]\nname = \"b\"\nkind = \"station\"\n[[link]]\nends = [\"a\", \"b\"]\ncost = 1\nmode = \"on\"\nrings = [1, 1, 1, 1, 1, 1, 1, 1]\n";
 
+/// Two stations and a link over which frames of up to 2000 octets go whole.
+pub const WHOLE_FRAMES: &str =
+    "express_from = 4\n[[node]]\nname = \"a\"\nkind = \"station\"\n[[node]]\nname = \"b\"\nkind = \"station\"\n[[link]]\nends = [\"a\", \"b\"]\ncost = 1\nmode = \"off\"\nrings = [64, 64, 64, 64, 64, 64, 64, 64]\nlargest = 2000\n";
+
+/// Two stations and a link that preempts, whose preemptable frames have 100 octets at most.
+pub const SHORT_FRAMES: &str =
+    "express_from = 4\n[[node]]\nname = \"a\"\nkind = \"station\"\n[[node]]\nname = \"b\"\nkind = \"station\"\n[[link]]\nends = [\"a\", \"b\"]\ncost = 1\nmode = \"on\"\nrings = [64, 64, 64, 64, 64, 64, 64, 64]\nlargest = 100\n";
+
+/// A bridge between three stations. Priorities are express from 4 on over the first link, and from 6 on over the others.
+pub const AREAS: &str =
+    "express_from = 4\n[[node]]\nname = \"a\"\nkind = \"station\"\n[[node]]\nname = \"m\"\nkind = \"bridge\"\nlatency = 100\n[[node]]\nname = \"b\"\nkind = \"station\"\n[[node]]\nname = \"c\"\nkind = \"station\"\n[[link]]\nends = [\"a\", \"m\"]\ncost = 1\nmode = \"on\"\nrings = [64, 64, 64, 64, 64, 64, 64, 64]\n[[link]]\nends = [\"m\", \"b\"]\ncost = 1\nmode = \"on\"\nrings = [64, 64, 64, 64, 64, 64, 64, 64]\nexpress_from = 6\n[[link]]\nends = [\"c\", \"m\"]\ncost = 1\nmode = \"on\"\nrings = [64, 64, 64, 64, 64, 64, 64, 64]\nexpress_from = 6\n";
+
 const STATIONS: &str =
     "node = [{name = \"a\", kind = \"station\"}, {name = \"b\", kind = \"station\"}]\n";
 
@@ -36,6 +48,8 @@ fn arc(from: u16, to: u16) -> Arc {
         policy: Policy::Quiet,
         add_frag: 0,
         rings: [64; 8],
+        express_from: 4,
+        largest: 1522,
     }
 }
 
@@ -53,7 +67,7 @@ fn two_stations(rt: HostRuntime) -> Result<(), Fail> {
     assert_eq!(rt; net.arcs.as_slice(), [arc(0, 1), arc(1, 0)].as_slice());
     assert_eq!(rt; net.node_name(NodeId(1)), b"b".as_slice());
     assert_eq!(rt; net.slots(), 1030);
-    assert_eq!(rt; net.wires(), 3060);
+    assert_eq!(rt; net.wires(), 4016);
     Ok(())
 }
 
@@ -67,6 +81,23 @@ fn a_bridge_between(rt: HostRuntime) -> Result<(), Fail> {
     assert_eq!(rt; bridge.latency, 100);
     assert_eq!(rt; net.arc_named(b"m>b"), Some(ArcId(2)));
     assert_eq!(rt; net.slots(), 4 * 515 + 2);
+    Ok(())
+}
+
+#[test]
+fn express_priorities_of_each_link(rt: HostRuntime) -> Result<(), Fail> {
+    let net = read_network(rt.alloc(), AREAS.as_bytes())?;
+    for (place, least) in [4, 4, 6, 6, 6, 6].iter().enumerate() {
+        let arc = net.arcs.as_slice().get(place).ok_or("arc")?;
+        assert_eq!(rt; arc.express_from, *least, "{place}");
+        assert_eq!(rt; arc.largest, 1522, "{place}");
+    }
+    let text = format!(in rt.alloc();
+        "express_from = 7\n{STATIONS}link = [{{ends = [\"a\", \"b\"], cost = 1, largest = 64}}]\n"
+    )?;
+    let net = read_network(rt.alloc(), text.as_bytes())?;
+    let arc = net.arcs.as_slice().first().ok_or("arc")?;
+    assert_eq!(rt; (arc.express_from, arc.largest), (7, 64));
     Ok(())
 }
 
@@ -85,7 +116,7 @@ fn assert_same(rt: &impl Abort, a: &Network, b: &Network) {
 #[test]
 fn what_is_written_is_read_back(rt: HostRuntime) -> Result<(), Fail> {
     let alloc = rt.alloc();
-    for text in [DIRECT, NEGOTIATED, BRIDGED, NARROW] {
+    for text in [DIRECT, NEGOTIATED, BRIDGED, NARROW, WHOLE_FRAMES, AREAS] {
         let net = read_network(alloc, text.as_bytes())?;
         let mut sink = MemorySink::make(alloc, 4096, 7, &[])?;
         assert!(rt; put_network(&net, &mut sink).is_ok());
@@ -153,6 +184,30 @@ fn each_fault_of_a_network(rt: HostRuntime) -> Result<(), Fail> {
                 row: FileRow::Link(0),
             },
         ),
+        (
+            "link = [{ends = [\"a\", \"b\"], cost = 1, express_from = \"4\"}]",
+            TopoFault::Field {
+                row: FileRow::Link(0),
+            },
+        ),
+        (
+            "link = [{ends = [\"a\", \"b\"], cost = 1, express_from = 0}]",
+            TopoFault::Range {
+                row: FileRow::Link(0),
+            },
+        ),
+        (
+            "link = [{ends = [\"a\", \"b\"], cost = 1, largest = 63}]",
+            TopoFault::Range {
+                row: FileRow::Link(0),
+            },
+        ),
+        (
+            "link = [{ends = [\"a\", \"b\"], cost = 1, largest = 2001}]",
+            TopoFault::Range {
+                row: FileRow::Link(0),
+            },
+        ),
         ("link = []\nexpress_from = 8", TopoFault::Range { row: top }),
         ("link = []", TopoFault::Count),
         (
@@ -160,7 +215,7 @@ fn each_fault_of_a_network(rt: HostRuntime) -> Result<(), Fail> {
             TopoFault::Slots,
         ),
         (
-            "link = [{ends = [\"a\", \"b\"], cost = 1, delay = 33552903}]",
+            "link = [{ends = [\"a\", \"b\"], cost = 1, delay = 33552425}]",
             TopoFault::Wires,
         ),
     ] {
@@ -212,7 +267,7 @@ fn networks_at_their_limits(rt: HostRuntime) -> Result<(), Fail> {
     let alloc = rt.alloc();
     for link in [
         "{ends = [\"a\", \"b\"], cost = 1, rings = [4096, 4096, 4096, 4096, 4096, 4096, 4096, 1325]}",
-        "{ends = [\"a\", \"b\"], cost = 1, delay = 33552902}",
+        "{ends = [\"a\", \"b\"], cost = 1, delay = 33552424}",
     ] {
         let text = format!(in alloc; "{STATIONS}link = [{link}]\n")?;
         assert!(rt; read_network(alloc, text.as_bytes()).is_ok(), "{link}");

@@ -1,6 +1,6 @@
 //! Stream files: their values and their faults.
 
-use crate::networks::{BRIDGED, DIRECT};
+use crate::networks::{AREAS, BRIDGED, DIRECT};
 use pre_base::{ArcId, FileRow, NodeId, StreamId};
 use pre_streams::{StreamFault, Streams, read_streams};
 use pre_topo::read_network;
@@ -18,6 +18,10 @@ pub const BY_BRIDGE: &str =
 /// Two streams and a flow.
 pub const THREE_ROWS: &str =
     "[[stream]]\nname = \"x\"\nvid = 10\nprio = 6\nroute = [\"a\", \"b\"]\nmax = 64\nburst = 84\nrate = 1000\n[[stream]]\nname = \"z\"\nvid = 11\nprio = 7\nroute = [\"a\", \"b\"]\nmax = 500\nburst = 520\nrate = 10000\n[[flow]]\nname = \"y\"\nvid = 20\nprio = 0\nroute = [\"a\", \"b\"]\nmax = 1522\n";
+
+/// A stream that changes areas, and a flow that joins it in the second one.
+pub const ACROSS_AREAS: &str =
+    "[[stream]]\nname = \"x\"\nvid = 10\nprio = 6\nroute = [\"a\", \"m\", \"b\"]\nmax = 64\nburst = 84\nrate = 1000\n[[flow]]\nname = \"y\"\nvid = 20\nprio = 5\nroute = [\"c\", \"m\", \"b\"]\nmax = 1522\n";
 
 fn read(alloc: Global, net: &str, text: &str) -> Result<Result<Streams, StreamFault>, Fail> {
     let net = read_network(alloc, net.as_bytes())?;
@@ -65,6 +69,37 @@ fn no_row_and_three_rows(rt: HostRuntime) -> Result<(), Fail> {
 }
 
 #[test]
+fn classes_of_each_arc(rt: HostRuntime) -> Result<(), Fail> {
+    let alloc = rt.alloc();
+    assert_eq!(rt; read(alloc, AREAS, ACROSS_AREAS)??.rows.len(), 2);
+    let (stream, flow) = (FileRow::Stream(0), FileRow::Flow(0));
+    for (rows, fault) in [
+        (
+            "stream = [{name = \"x\", vid = 1, prio = 5, route = [\"a\", \"m\", \"b\"], max = 64, burst = 84, rate = 1}]",
+            StreamFault::Class { row: stream },
+        ),
+        (
+            "flow = [{name = \"y\", vid = 1, prio = 5, route = [\"a\", \"m\", \"b\"], max = 64}]",
+            StreamFault::Class { row: flow },
+        ),
+        (
+            "flow = [{name = \"y\", vid = 1, prio = 5, route = [\"c\", \"m\", \"b\"], max = 1523}]",
+            StreamFault::Range { row: flow },
+        ),
+        (
+            "flow = [{name = \"y\", vid = 1, prio = 9, route = [\"a\"], max = 64}]",
+            StreamFault::Range { row: flow },
+        ),
+    ] {
+        assert_eq!(rt; read(alloc, AREAS, rows)?.err(), Some(fault), "{rows}");
+    }
+    let long =
+        "stream = [{name = \"x\", vid = 1, prio = 7, route = [\"a\", \"m\", \"b\"], max = 2000, burst = 2020, rate = 1}]";
+    assert_eq!(rt; read(alloc, AREAS, long)??.rows.len(), 1);
+    Ok(())
+}
+
+#[test]
 fn each_fault_of_a_stream(rt: HostRuntime) -> Result<(), Fail> {
     let alloc = rt.alloc();
     let row = FileRow::Stream(0);
@@ -107,6 +142,10 @@ fn each_fault_of_a_stream(rt: HostRuntime) -> Result<(), Fail> {
         ),
         (
             "{name = \"x\", vid = 1, prio = 6, route = [\"a\", \"b\"], max = 64, burst = 83, rate = 1}",
+            StreamFault::Range { row },
+        ),
+        (
+            "{name = \"x\", vid = 1, prio = 6, route = [\"a\", \"b\"], max = 2001, burst = 2021, rate = 1}",
             StreamFault::Range { row },
         ),
         (

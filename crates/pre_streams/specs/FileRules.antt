@@ -12,7 +12,6 @@ use Rattle.pre_table.specs.declared.values.Whole.{Whole}
 use Rattle.pre_table.specs.FirstFaults.{first_of, first_row}
 use Rattle.pre_table.specs.Values.{natural, is_below, is_within, same_whole}
 use Rattle.pre_topo.specs.declared.network.Network.{Network}
-use Rattle.pre_topo.specs.declared.nodes.Node.{Node}
 use Rattle.pre_topo.specs.declared.nodes.NodeKind.{NodeKind}
 use Rattle.pre_topo.specs.declared.nodes.NodeKind.TheVariants.{Station, Bridge}
 use Rattle.pre_topo.specs.declared.arcs.Arc.{Arc}

@@ -157,9 +157,7 @@ fn is_carried(net: &Network, curves: &[RawCurve], place: usize, row: &RawFlow) -
 fn range_breaks(net: &Network, curves: &[RawCurve], place: usize, row: &RawFlow) -> bool
     ensures { result ≡ range_breaks net.now curves.now place row.now }
 {
-    !(row_in_range(row)
-        && has_curve_in_range(curves, place)
-        && is_carried(net, curves, place, row))
+    !(row_in_range(row) && has_curve_in_range(curves, place) && is_carried(net, curves, place, row))
 }
 
 fn bad_range(net: &Network, curves: &[RawCurve], rows: &[RawFlow]) -> Option<usize>

@@ -13,9 +13,10 @@ pub enum StreamFault {
     /// Rule 4: the route's entry `hop`, counted from 0, isn't a node, was visited before, is of the wrong kind or
     /// has no link with the entry before it; or the route differs there from an earlier one of its VID.
     Route { row: FileRow, hop: u64 },
-    /// Rule 5: a stream's priority isn't express, or a flow's is.
+    /// Rule 5: a stream's priority isn't express on an arc of its route, or a flow's is.
     Class { row: FileRow },
-    /// Rule 6: a number, or the length of a route, is outside its range.
+    /// Rule 6: a number, or the length of a route, is outside its range, or a flow's greatest frame is above that of an
+    /// arc of its route.
     Range { row: FileRow },
     /// Rule 7: a burst has no room for the greatest frame with preamble and gap.
     Burst { row: FileRow },

@@ -16,7 +16,7 @@ pub struct Row {
     pub route: Items<NodeId>,
     /// The arcs from each node of the route to the next.
     pub arcs: Items<ArcId>,
-    /// The greatest frame, in octets with its check.
+    /// The greatest frame, in octets with its check: 64 to 2000.
     pub max: u16,
     pub curve: Option<Curve>,
 }

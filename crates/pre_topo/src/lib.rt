@@ -74,6 +74,8 @@ mode = "on"
 policy = "quiet"
 add_frag = 0
 rings = [64, 64, 64, 64, 64, 64, 64, 64]
+express_from = 4
+largest = 1522
 "#;
 
     #[test]
