@@ -10,3 +10,4 @@ pub mod SinkView
 pub mod Entries
 pub mod ShelfView
 pub mod Calls
+pub mod Last

@@ -1,7 +1,6 @@
 -- Events at later moments leave what an mPacket that began carries as it is, and what comes of one that ended.
-use Rattle.std.proofs.Common.{ℕ, ◌≡◌, ◌==◌, ◌&&◌, ◌+◌, ◌*◌, ◌<◌, ◌≤◌, nat_le, Bool, true, false, List, ◌++◌, length, refl, sym, ◌∙◌, ap, inl, inr, arith, subst, Some, None}
+use Rattle.std.proofs.Common.{ℕ, ◌≡◌, ◌==◌, ◌&&◌, ◌+◌, ◌*◌, ◌<◌, ◌≤◌, Bool, List, ◌++◌, length, refl, sym, ◌∙◌, ap, inl, inr, arith, subst, Some, None}
 use Rattle.std.specs.Prelude.{◌↔◌, if◌then◌else◌, slice_get}
-use Rattle.std.proofs.lemmas.Bool.Decides.{nat_tests}
 use Rattle.std.proofs.lemmas.List.Elements.{filter_map-append}
 use Rattle.pre_mpacket.specs.Arrivals.{Given, Gives, IsLost}
 use Rattle.pre_history.specs.declared.events.Outcome.{Outcome}
@@ -24,13 +23,7 @@ use Rattle.pre_history.proofs.Unread.{gives_like, arrives_like}
 use Rattle.pre_history.specs.Placed.{IsWithin, AllWithin}
 use Rattle.pre_history.proofs.Places.{later_tick}
 use Rattle.pre_history.proofs.Known.{gives_later}
-
-not_by : (m n : ℕ) → n < m → nat_le m n ≡ false
-not_by m n lt = grind (arith, nat_tests)
-
-and_false : (b : Bool) → (b && false) ≡ false
-and_false true = refl
-and_false false = refl
+use Rattle.pre_history.proofs.NatTests.{and_false, not_by}
 
 -- an event that stands after a start tells nothing of activity up to its tick
 untold : (arcs a s m k : ℕ) → number arcs s (2 + 3 * arcs + a) < m → m ≤ k → (e : PlainEvent) → IsAt arcs k e → active_on a s e ≡ None

@@ -1,6 +1,6 @@
 -- Whether an mPacket that ended is an alias, by its events; that is decided, and later events don't change it.
 use Rattle.std.proofs.Common.{ℕ, ◌≡◌, ◌≢◌, ◌⊎◌, ◌+◌, ◌<◌, List, ◌++◌, length, refl, sym, ◌∙◌, ap, inl, inr, arith, subst, Some}
-use Rattle.std.specs.Prelude.{◌↔◌, slice_get, Any}
+use Rattle.std.specs.Prelude.{◌↔◌, slice_get}
 use Rattle.std.proofs.lemmas.List.Elements.{filter_map-append}
 use Rattle.pre_mpacket.specs.declared.packets.Kind.{Kind}
 use Rattle.pre_mpacket.specs.declared.packets.Kind.TheVariants as kind
@@ -10,12 +10,10 @@ use Rattle.pre_history.specs.declared.events.What.TheVariants as what
 use Rattle.pre_history.specs.Scenario.{Scenario}
 use Rattle.pre_history.specs.History.{History, Begin, Ended}
 use Rattle.pre_history.specs.Selected.{begin_on, ended_on}
-use Rattle.pre_history.specs.Queries.{Begins, Ends, Packet, packet, Packets}
+use Rattle.pre_history.specs.Queries.{Begins, Ends}
 use Rattle.pre_history.specs.Octets.{WholeOf, Air}
 use Rattle.pre_history.specs.Legal.{LegalUpTo, IsLastOf, IsOfKind, Alias}
-use Rattle.pre_history.proofs.Lists.{any_at, found_at, at_front, one_at, there}
-use Rattle.pre_history.proofs.Free.{packet_at}
-use Rattle.pre_history.proofs.LaterEnds.{packet_back}
+use Rattle.pre_history.proofs.Lists.{at_front, one_at, there}
 use Rattle.pre_history.proofs.InOrder.{steady}
 use Rattle.pre_history.specs.Placed.{AllWithin}
 use Rattle.pre_history.proofs.AirStays.{gives_stays, whole_stays}

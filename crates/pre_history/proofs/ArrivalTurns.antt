@@ -4,7 +4,6 @@ use Rattle.std.specs.Prelude.{slice_get}
 use Rattle.std.proofs.lemmas.Bool.{cases_lt}
 use Rattle.std.proofs.lemmas.List.Elements.{filter_map-append}
 use Rattle.pre_history.specs.declared.events.Outcome.{Outcome}
-use Rattle.pre_history.specs.declared.events.Outcome.TheVariants as outcome
 use Rattle.pre_history.specs.Scenario.{Scenario, arc}
 use Rattle.pre_history.specs.Moments.{Phase, moments}
 use Rattle.pre_history.specs.History.{PlainEvent, History, Ended, Arrive}
@@ -22,7 +21,7 @@ use Rattle.pre_history.proofs.Pushes.{push_arrival, ends_rise}
 use Rattle.pre_history.proofs.Turns.{tick_lt, same_begins, same_ends, each_none, each_only}
 use Rattle.pre_history.proofs.Free.{arrivals_before}
 use Rattle.pre_history.proofs.Steady.{Steady, costs, less_or_equal, parted, number_lt, old_size, old_check, no_events}
-use Rattle.pre_history.proofs.EndTurns.{is_eq}
+use Rattle.pre_history.proofs.NatTests.{is_eq}
 
 module _ (w : Scenario) (past es : History) (t a : ℕ) (a_lt : a < length w.net.arcs) where
   -- an arrival has one `arrive` event

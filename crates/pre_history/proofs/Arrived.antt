@@ -4,7 +4,6 @@ use Rattle.std.specs.Prelude.{option_and_then}
 use Rattle.pre_mpacket.specs.Spelling.{mpacket_of}
 use Rattle.pre_mpacket.specs.Arrivals.{Given, Gives, IsLost}
 use Rattle.pre_history.specs.declared.events.Outcome.{Outcome}
-use Rattle.pre_history.specs.declared.events.Outcome.TheVariants as outcome
 use Rattle.pre_history.specs.Scenario.{Scenario}
 use Rattle.pre_history.specs.History.{History, Ended}
 use Rattle.pre_history.specs.Octets.{Air}

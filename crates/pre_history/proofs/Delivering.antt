@@ -34,6 +34,7 @@ use Rattle.pre_history.proofs.Turns.{tick_lt}
 use Rattle.pre_history.proofs.Free.{begins_before}
 use Rattle.pre_history.proofs.Steady.{Steady}
 use Rattle.pre_history.proofs.Keeping.{IsDelivered, AllRight, grown, nothing_much}
+use Rattle.pre_history.proofs.NatTests.{is_eq, is_lt}
 
 pub no_events : (w : Scenario) (past es : History) → es ≡ [] → AllRight w past → AllRight w (past ++ es)
 no_events w past es none all = subst (AllRight w) (sym (ap (λ xs. past ++ xs) none ∙ append-nil past)) all
@@ -43,12 +44,6 @@ all_and true true true p q r is = cc is
 all_and true true false p q r is = cc r
 all_and true false z p q r is = cc q
 all_and false y z p q r is = cc p
-
-is_lt : (m n : ℕ) → m < n → nat_lt m n ≡ true
-is_lt m n lt = grind (arith, nat_tests)
-
-is_eq : (m n : ℕ) → m ≡ n → (m == n) ≡ true
-is_eq m n e = grind (arith, nat_tests)
 
 new_at : (past : History) (r b : Begin) (x i : ℕ) → slice_get (Begins (past ++ PlainEvent.begin r ∷ []) x) i ≡ Some b
     → (slice_get (Begins past x) i ≡ Some b) ⊎ ((r.arc ≡ x) × (i ≡ length (Begins past x)) × (r ≡ b))

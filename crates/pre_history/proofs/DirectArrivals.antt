@@ -1,10 +1,8 @@
 -- Where no arc of a direct run negotiates, each arrival gives the frame that was sent as that mPacket.
-use Rattle.std.proofs.Common.{ℕ, zero, suc, ◌≡◌, ◌≢◌, ◌==◌, ◌+◌, ◌<◌, ◌≤◌, Bool, true, false, [], ◌∷◌, List, length, refl, sym, ◌∙◌, ap, inl, inr, arith, subst, Some, None}
-use Rattle.std.specs.Prelude.{All, Any, if◌then◌else◌, slice_get, count_by}
+use Rattle.std.proofs.Common.{ℕ, zero, suc, ◌≡◌, ◌+◌, ◌<◌, ◌≤◌, Bool, false, [], ◌∷◌, List, length, refl, sym, ◌∙◌, ap, inl, inr, arith, subst, Some}
+use Rattle.std.specs.Prelude.{slice_get, count_by}
 use Rattle.std.specs.List.{AllByRecursion as Every}
 use Rattle.std.proofs.lemmas.Bool.{cases_lt}
-use Rattle.std.proofs.lemmas.Bool.Decides.{nat_tests}
-use Rattle.std.proofs.lemmas.List.Elements.{All-from_recursion}
 use Rattle.pre_crc.specs.Checks.{Fcs}
 use Rattle.pre_mpacket.specs.declared.packets.Kind.{Kind}
 use Rattle.pre_mpacket.specs.declared.packets.Kind.TheVariants as kind
@@ -13,18 +11,17 @@ use Rattle.pre_mpacket.specs.Arrivals.{Given, Gives, Spelled, HasKind, is_start,
 use Rattle.pre_mpacket.specs.Counters.{HoldsOf, IsAssError, IsSmdError, IsAssOk, IsFragRx}
 use Rattle.pre_history.specs.declared.events.What.TheVariants as what
 use Rattle.pre_history.specs.Scenario.{Scenario, FrameOf}
-use Rattle.pre_history.specs.History.{PlainEvent, History, Begin, Ended, Arrive, Counts}
+use Rattle.pre_history.specs.History.{History, Begin, Ended, Arrive, Counts}
 use Rattle.pre_history.specs.Selected.{arrive_on}
-use Rattle.pre_history.specs.Queries.{Begins, Ends, Arrivals, Packet, Packets, packet}
+use Rattle.pre_history.specs.Queries.{Begins, Ends, Arrivals}
 use Rattle.pre_history.specs.Octets.{whole_of, WholeOf, Air}
 use Rattle.pre_history.specs.Starts.{SizeOf}
 use Rattle.pre_history.specs.Placed.{IsBefore}
 use Rattle.pre_history.specs.Legal.{LegalUpTo, Alias, IsLastOf, CountsOf, CountLines}
 use Rattle.pre_history.specs.Deliveries.{IsPlain}
-use Rattle.pre_history.proofs.Lists.{any_at, every_at, every_placed, every_selected, every_weaker, there, within}
+use Rattle.pre_history.proofs.Lists.{every_at, every_selected, every_weaker, there, within}
 use Rattle.pre_history.proofs.Arrived.{OneGiven}
 use Rattle.pre_history.proofs.Spelled.{OneSpelled}
-use Rattle.pre_history.proofs.Free.{packet_at}
 use Rattle.pre_history.proofs.Placing.{placed}
 use Rattle.pre_history.proofs.Fronts.{IsWholeBegin}
 use Rattle.pre_history.proofs.Coming.{begins_right}
@@ -32,6 +29,7 @@ use Rattle.pre_history.proofs.Undamaged.{user_of, whole_arrives, whole_spelled}
 use Rattle.pre_history.proofs.InOrder.{steady}
 use Rattle.pre_history.proofs.DeliveredOnce.{all_right}
 use Rattle.pre_history.proofs.Carrying.{OfFrame, begins_carry}
+use Rattle.pre_history.proofs.FirstAliases.{arrives_within}
 
 -- arrival i of the arc is frame f, which began and ended as this mPacket
 record IsFrameAt (w : Scenario) (h : History) (a i f : ℕ) (b : Begin) (e : Ended) : Type 0 where
@@ -105,23 +103,6 @@ none_count (b ∷ bs) (here, more) = rw here (none_count bs more)
 
 abbrev no_counts : Counts
 no_counts = record { err = 0; smd = 0; ok = 0; rx = 0; tx = 0 }
-
--- what arrives does so on an arc of the network
-arrives_within : (arcs n a : ℕ) (e : PlainEvent) (x : Arrive) → IsBefore arcs n e → arrive_on a e ≡ Some x → a < arcs
-arrives_within arcs n a (PlainEvent.arrive c) x (m, lt, (c_lt, at)) is = go (c.arc == a) refl is
-  where
-    go : (same : Bool) → (c.arc == a) ≡ same → (if same then Some c else None) ≡ Some x → a < arcs
-    go false off is = absurd (cc is)
-    go true on is = let arc_is : c.arc ≡ a = grind (arith, nat_tests) in omega (arith, c_lt, arc_is)
-arrives_within arcs n a (PlainEvent.set s c v) x before is = absurd (cc is)
-arrives_within arcs n a (PlainEvent.begin c) x before is = absurd (cc is)
-arrives_within arcs n a (PlainEvent.ended c) x before is = absurd (cc is)
-arrives_within arcs n a (PlainEvent.deliver c) x before is = absurd (cc is)
-arrives_within arcs n a (PlainEvent.active s c v) x before is = absurd (cc is)
-arrives_within arcs n a (PlainEvent.enter c) x before is = absurd (cc is)
-arrives_within arcs n a (PlainEvent.dropped c) x before is = absurd (cc is)
-arrives_within arcs n a (PlainEvent.count s c) x before is = absurd (cc is)
-arrives_within arcs n a (PlainEvent.end c) x before is = absurd (cc is)
 
 module _ (spelled : OneSpelled) (one : OneGiven) (w : Scenario) (plain : IsPlain w) (n : ℕ) (h : History) (legal : LegalUpTo w n h) where
   frame_at : (a i : ℕ) → a < length w.net.arcs → i < length (Arrivals h a) → (f : ℕ) × (b : Begin) × (e : Ended) × IsFrameAt w h a i f b e

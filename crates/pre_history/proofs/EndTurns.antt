@@ -4,7 +4,6 @@ use Rattle.std.specs.Prelude.{slice_get}
 use Rattle.std.proofs.Math.Nat.{mul-le-mul_right, mul-le-mul_left}
 use Rattle.std.proofs.lemmas.Bool.{cases_lt}
 use Rattle.std.proofs.lemmas.List.Elements.{filter_map-append}
-use Rattle.std.proofs.lemmas.Bool.Decides.{nat_tests}
 use Rattle.pre_history.specs.Scenario.{Scenario, arc}
 use Rattle.pre_history.specs.Moments.{Phase, moments}
 use Rattle.pre_history.specs.History.{PlainEvent, History, Begin, Ended, Arrive}
@@ -21,9 +20,7 @@ use Rattle.pre_history.proofs.Pushes.{push_end}
 use Rattle.pre_history.proofs.Turns.{tick_lt, same_begins, same_arrivals, all_later, each_none, each_only}
 use Rattle.pre_history.proofs.Free.{ends_before}
 use Rattle.pre_history.proofs.Steady.{Steady, costs, begin_arc, old_size, old_check, no_events, still_arrived}
-
-pub is_eq : (m n : ℕ) → m ≡ n → (m == n) ≡ true
-is_eq m n e = grind (arith, nat_tests)
+use Rattle.pre_history.proofs.NatTests.{is_eq}
 
 -- a moment at a later place of no earlier tick isn't reached
 not_early : (size s t delay j k : ℕ) → s ≡ t → k < j → (s + delay) * size + j < suc (t * size + k) → ⊥

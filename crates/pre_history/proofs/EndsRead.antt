@@ -20,13 +20,14 @@ use Rattle.pre_history.proofs.Placing.{placed, begins_arc}
 use Rattle.pre_history.proofs.Turns.{tick_le, each_only}
 use Rattle.pre_history.proofs.Sizes.{size_one}
 use Rattle.pre_history.proofs.Steady.{costs}
-use Rattle.pre_history.proofs.EndTurns.{is_eq, not_again}
+use Rattle.pre_history.proofs.EndTurns.{not_again}
 use Rattle.pre_history.proofs.InOrder.{steady}
 use Rattle.pre_history.proofs.Lists.{every_at}
 use Rattle.pre_history.specs.Read.{HasEnded}
 use Rattle.pre_history.proofs.Places.{all_later_from}
 use Rattle.pre_history.proofs.SizesStay.{size_stays}
 use Rattle.pre_history.proofs.Around.{Around, around, begins_within}
+use Rattle.pre_history.proofs.NatTests.{is_eq}
 
 pub more_places : (size s t j k : ℕ) → j < size → s < t → s * size + j ≤ t * size + k
 more_places size s t j k lt less = elim (cases_lt (t * size + k) (s * size + j)) [

@@ -24,13 +24,10 @@ use Rattle.pre_history.specs.Placed.{IsWithin, AllWithin}
 use Rattle.pre_history.specs.Read.{IsTold, IsNoEntry, HasEntries, HasEntry}
 use Rattle.pre_history.proofs.Places.{later_tick}
 use Rattle.pre_history.proofs.Around.{around, arrivals_within}
+use Rattle.pre_history.proofs.NatTests.{and_false}
 
 no_eq : (m n : ℕ) → n < m → (m == n) ≡ false
 no_eq m n lt = grind (arith, nat_tests)
-
-and_false : (b : Bool) → (b && false) ≡ false
-and_false true = refl
-and_false false = refl
 
 flat_map_like : {X Y : Type 0} (f g : X → List Y) (xs : List X) → Every (λ x. f x ≡ g x) xs → flat_map f xs ≡ flat_map g xs
 flat_map_like f g [] same = refl

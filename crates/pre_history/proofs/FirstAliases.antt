@@ -1,6 +1,6 @@
 -- Where no history is legal up to a moment without an alias, there is a first alias.
 use Rattle.std.proofs.Common.{ℕ, zero, suc, ◌≡◌, ◌⊎◌, ◌==◌, ◌+◌, ◌/◌, ◌%◌, ◌<◌, Bool, true, false, List, [], ◌∷◌, ◌++◌, length, refl, sym, ◌∙◌, ap, inl, inr, arith, subst, Some, None}
-use Rattle.std.specs.Prelude.{if◌then◌else◌, slice_get, slice_index_or, All}
+use Rattle.std.specs.Prelude.{if◌then◌else◌, slice_get}
 use Rattle.std.proofs.lemmas.Bool.Decides.{nat_tests}
 use Rattle.std.proofs.lemmas.List.Elements.{filter_map-append}
 use Rattle.pre_history.specs.declared.events.Outcome.{Outcome}
@@ -14,7 +14,7 @@ use Rattle.pre_history.specs.Received.{Result}
 use Rattle.pre_history.specs.Rules.{WithDelivery, HappensIn, Happens}
 use Rattle.pre_history.specs.Placed.{number, IsAt, IsBefore, AllAt, moment_of}
 use Rattle.pre_history.specs.Legal.{LegalUpTo, Alias, LegalBefore, ArrivesAsAlias}
-use Rattle.pre_history.proofs.Lists.{any_at, read_at, there, within, every_at, every_selected}
+use Rattle.pre_history.proofs.Lists.{there, within, every_at, every_selected}
 use Rattle.pre_history.proofs.Moments.{moment_in, arrivals_place}
 use Rattle.pre_history.proofs.Placing.{place_at, placed, moment_events}
 use Rattle.pre_history.proofs.LaterEnds.{split_at}
@@ -26,7 +26,7 @@ use Rattle.pre_history.proofs.Cut.{at_within, cut_at, following}
 use Rattle.pre_history.proofs.OneHistory.{legal_one}
 use Rattle.pre_history.proofs.Placing.{numbered}
 use Rattle.std.proofs.Common.{append_assoc}
-use Rattle.pre_history.proofs.Lists.{at_front, found_at}
+use Rattle.pre_history.proofs.Lists.{at_front}
 use Rattle.pre_history.specs.Selected.{ended_on}
 use Rattle.pre_history.proofs.Around.{arrive_at}
 use Rattle.pre_mpacket.proofs.Decisions.{IsDecided, both_then, equal}

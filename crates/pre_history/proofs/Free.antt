@@ -10,9 +10,7 @@ use Rattle.pre_history.specs.Selected.{begin_on, ended_on, arrive_on}
 use Rattle.pre_history.specs.Queries.{Begins, Ends, Arrivals, Packets, packet, end_of, IsUnderWay, Occupied}
 use Rattle.pre_history.specs.Placed.{number, IsBefore, AllBefore}
 use Rattle.pre_history.proofs.Lists.{any_at, every_selected}
-
-is_eq : (m n : ℕ) → m ≡ n → (m == n) ≡ true
-is_eq m n e = grind (arith, nat_tests)
+use Rattle.pre_history.proofs.NatTests.{is_eq}
 
 no_eq : (m n : ℕ) → m < n → (m == n) ≡ false
 no_eq m n lt = grind (arith, nat_tests)

@@ -1,5 +1,5 @@
 -- An mPacket begins in its turn, and so in a legal history the mPackets of each arc follow one another in order.
-use Rattle.std.proofs.Common.{ℕ, zero, suc, ◌≡◌, ◌≢◌, ◌⊎◌, ◌==◌, ◌+◌, ◌*◌, ◌/◌, ◌%◌, ◌<◌, ◌≤◌, true, List, [], ◌∷◌, ◌++◌, length, refl, sym, ◌∙◌, ap, inl, inr, arith, subst, Some}
+use Rattle.std.proofs.Common.{ℕ, zero, suc, ◌≡◌, ◌==◌, ◌+◌, ◌*◌, ◌/◌, ◌%◌, ◌<◌, ◌≤◌, true, List, [], ◌∷◌, ◌++◌, length, refl, sym, ◌∙◌, ap, inl, inr, arith, subst, Some}
 use Rattle.std.specs.Prelude.{slice_get}
 use Rattle.std.proofs.lemmas.Bool.{cases_lt}
 use Rattle.std.proofs.lemmas.List.Elements.{filter_map-append}
@@ -19,11 +19,9 @@ use Rattle.pre_history.proofs.Pushes.{push_begin}
 use Rattle.pre_history.proofs.Turns.{tick_lt, same_ends, same_arrivals}
 use Rattle.pre_history.proofs.Free.{free_end, begins_before}
 use Rattle.pre_history.proofs.Steady.{Steady, old_size, old_check, quiet, no_events, still_arrived}
-use Rattle.pre_history.proofs.EndTurns.{is_eq, ends_step}
+use Rattle.pre_history.proofs.EndTurns.{ends_step}
 use Rattle.pre_history.proofs.ArrivalTurns.{arrivals_step}
-
-cases_eq : (m n : ℕ) → (m ≡ n) ⊎ (m ≢ n)
-cases_eq m n = grind arith
+use Rattle.pre_history.proofs.NatTests.{cases_eq, is_eq}
 
 module _ (w : Scenario) (past es : History) (t a : ℕ) (a_lt : a < length w.net.arcs) (k_lt : 2 + 3 * length w.net.arcs + a < moments (length w.net.arcs))
     (before : AllBefore (length w.net.arcs) (number (length w.net.arcs) t (2 + 3 * length w.net.arcs + a)) past) (at : AllAt (length w.net.arcs) (number (length w.net.arcs) t (2 + 3 * length w.net.arcs + a)) es)

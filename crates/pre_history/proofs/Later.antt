@@ -1,22 +1,16 @@
 -- Events that no query at a tick reads leave what waits as it is.
-use Rattle.std.proofs.Common.{ℕ, ◌≡◌, ◌≤◌, ◌<◌, ◌==◌, ◌&&◌, ◌||◌, nat_lt, nat_le, not, Bool, true, false, List, [], ◌∷◌, ◌++◌, refl, ◌∙◌, ap, arith, Some, None, filter, map}
+use Rattle.std.proofs.Common.{ℕ, ◌≡◌, ◌==◌, ◌&&◌, ◌||◌, nat_lt, nat_le, not, Bool, true, false, List, [], ◌∷◌, ◌++◌, refl, ◌∙◌, ap, Some, None, filter, map}
 use Rattle.std.specs.Prelude.{if◌then◌else◌}
 use Rattle.std.specs.List.{list_any, cons_option}
 use Rattle.std.proofs.Math.Path.{fun_ext}
 use Rattle.std.proofs.lemmas.List.{append-nil}
 use Rattle.std.proofs.lemmas.List.Folds.{list_any-append}
 use Rattle.std.proofs.lemmas.List.Elements.{filter_map-append, filter-append}
-use Rattle.std.proofs.lemmas.Bool.Decides.{nat_tests}
 use Rattle.pre_history.specs.History.{PlainEvent, History, Begin}
 use Rattle.pre_history.specs.Selected.{RingEntry, begin_on, entry_on, what_is}
 use Rattle.pre_history.specs.Queries.{Begins, Entries, begun_before, Waiting}
 use Rattle.pre_history.proofs.IsLater.{AllLater}
-
-not_before : (m n : ℕ) → n ≤ m → nat_lt m n ≡ false
-not_before m n le = grind (arith, nat_tests)
-
-not_by : (m n : ℕ) → n < m → nat_le m n ≡ false
-not_by m n lt = grind (arith, nat_tests)
+use Rattle.pre_history.proofs.NatTests.{not_by, not_before}
 
 skipped : {X : Type 0} (b : Bool) (x : X) (test : X → Bool) (xs : List X) → test x ≡ false → filter test xs ≡ [] → filter test (cons_option (if b then Some x else None) xs) ≡ []
 skipped true x test xs no' rest = rw (no', rest)

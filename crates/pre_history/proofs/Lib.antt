@@ -69,3 +69,5 @@ pub mod Waits
 pub mod IsLater
 pub mod Rising
 pub mod WrittenEvents
+pub mod NatTests
+pub mod LostFrame

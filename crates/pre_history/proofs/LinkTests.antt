@@ -4,7 +4,6 @@ use Rattle.std.specs.Prelude.{◌↔◌}
 use Rattle.std.specs.Bool.{Decides}
 use Rattle.std.specs.List.{AllZip}
 use Rattle.std.proofs.lemmas.Bool.{and_parts}
-use Rattle.std.proofs.lemmas.Bool.Decides.{nat_tests}
 use Rattle.pre_topo.specs.declared.arcs.Mode.TheVariants as mode
 use Rattle.pre_topo.specs.Arcs.{reverse_of}
 use Rattle.pre_script.specs.declared.scripts.Setting.TheVariants as setting
@@ -12,7 +11,7 @@ use Rattle.pre_mpacket.specs.Arrivals.{Given}
 use Rattle.pre_lldp.specs.LldpLayout.{advert_of}
 use Rattle.pre_lldp.specs.Ages.{Heard, last_heard, CountsEnabled}
 use Rattle.pre_lldp.specs.LinkState as link
-use Rattle.pre_history.specs.Scenario.{Scenario, arc, last}
+use Rattle.pre_history.specs.Scenario.{Scenario, arc}
 use Rattle.pre_history.specs.History.{History, Arrive}
 use Rattle.pre_history.specs.Selected.{is_lldp_result}
 use Rattle.pre_history.specs.Queries.{Arrivals, SettingOf}
@@ -21,9 +20,8 @@ use Rattle.pre_history.specs.LinkState.{Says, LldpReceived, Good, AreHeard, Veri
 use Rattle.pre_history.proofs.Arrived.{OneGiven}
 use Rattle.pre_history.proofs.Chosen.{from_filter, last_there}
 use Rattle.pre_history.proofs.Unread.{verified_like}
-
-by_then : (m n : ℕ) → nat_le m n ≡ true → m ≤ n
-by_then m n is = grind (arith, nat_tests)
+use Rattle.pre_base.specs.Last.{last}
+use Rattle.pre_history.proofs.NatTests.{by_then}
 
 some_time : (t s ttl unit : ℕ) → s ≤ t → t < s + ttl * unit → 0 < ttl
 some_time t s zero unit by lt = absurd (omega (arith, by, lt))

@@ -16,7 +16,7 @@ use Rattle.pre_history.specs.declared.events.Outcome.{Outcome}
 use Rattle.pre_history.specs.declared.events.Outcome.TheVariants as outcome
 use Rattle.pre_history.specs.declared.events.What.{What}
 use Rattle.pre_history.specs.declared.events.What.TheVariants as what
-use Rattle.pre_history.specs.Scenario.{Scenario, arc, last}
+use Rattle.pre_history.specs.Scenario.{Scenario, arc}
 use Rattle.pre_history.specs.History.{History, Begin, Arrive}
 use Rattle.pre_history.specs.Selected.{is_lldp_result}
 use Rattle.pre_history.specs.Queries.{Begins, Arrivals, SettingOf}
@@ -33,6 +33,7 @@ use Rattle.pre_mpacket.proofs.Decisions.{IsDecided, both, one_of, negated, by_te
 use Rattle.pre_mpacket.proofs.GivenDecided.{is_respond_kind}
 use Rattle.pre_history.proofs.Known.{one_given, verified_computed, wanted_computed}
 use Rattle.pre_history.proofs.Decided.{some_element}
+use Rattle.pre_base.specs.Last.{last}
 
 -- ---- plain values
 

@@ -18,7 +18,7 @@ use Rattle.pre_history.specs.Starts.{Item, Choice, There, StartRule, whole_frame
 use Rattle.pre_history.specs.Comings.{sends_from, Comings, EntriesOf, first_arc}
 use Rattle.pre_history.specs.Rules.{EndDue, CheckOf, last_four, HappensIn, delivered}
 use Rattle.pre_history.specs.Legal.{LegalUpTo}
-use Rattle.pre_history.specs.Examples.{first_send, SendsOneFrame, entered, first_begin, first_end, arrived, delivery, one_frame_body}
+use Rattle.pre_history.specs.Examples.{first_send, SendsFirst, entered, first_begin, first_end, arrived, delivery, one_frame_body}
 use Rattle.pre_history.proofs.Spelled.{OneSpelled}
 use Rattle.pre_history.proofs.Undamaged.{user_frame, whole_arrives}
 use Rattle.pre_history.proofs.Fronts.{IsRight, EntersRight, BeginsRight, IsWholeBegin}
@@ -28,16 +28,14 @@ use Rattle.pre_script.specs.declared.scripts.SendLine.{SendLine}
 use Rattle.pre_history.specs.Scenario.{send, no_send}
 use Rattle.pre_history.proofs.Quiet.{selected, gone, quiet_sets, quiet_expiries, quiet_ends, quiet_arrivals, comings_are, quiet_entries, quiet_starts, not_due, quiet_phase}
 
-abbrev begun : History
+abbrev pub begun : History
 begun = entered ∷ PlainEvent.begin first_begin ∷ []
 
-pub from_one : (w : Scenario) → SendsOneFrame w → SendsAtStart w
+pub from_one : (w : Scenario) → SendsFirst w → SendsAtStart w
 from_one w s = record {
   net = s.net;
   streams = s.streams;
   sets = s.sets;
-  losses = s.losses;
-  damages = s.damages;
   stream_x = λ f. ap (λ (xs : List SendLine). (slice_index_or xs f no_send).send.stream.0) s.sends ∙ stream f;
   size = λ f lt. ap (λ (xs : List SendLine). (slice_index_or xs f no_send).send.size) s.sends ∙ size f (subst (λ n. f < n) (ap length s.sends) lt);
   tick = λ f. ap (λ (xs : List SendLine). (slice_index_or xs f no_send).send.tick.0) s.sends ∙ tick f;
@@ -59,8 +57,8 @@ from_one w s = record {
     later : (t : ℕ) → 0 < t → sends_from w t 0 (first_send ∷ []) ≡ []
     later t lt = let other : (0 == t) ≡ false = grind (arith, nat_tests) in rw other refl
 
-module _ (w : Scenario) (s : SendsOneFrame w) where
-  one_send : length w.script.sends ≡ 1
+module _ (w : Scenario) (s : SendsFirst w) where
+  pub one_send : length w.script.sends ≡ 1
   one_send = ap length s.sends
 
   size_is : (send w 0).send.size ≡ 64
@@ -72,16 +70,16 @@ module _ (w : Scenario) (s : SendsOneFrame w) where
   frame_size : length (FrameOf w 0) ≡ 64
   frame_size = facts.frame_size w (from_one w s) 0 (omega (arith, one_send))
 
-  first_not_due : (h : History) (t : ℕ) → t ≢ 72 → (e : PlainEvent) → ¬ EndDue w h t first_begin e
+  pub first_not_due : (h : History) (t : ℕ) → t ≢ 72 → (e : PlainEvent) → ¬ EndDue w h t first_begin e
   first_not_due h t other e = not_due w (from_one w s) h t 0 0 0 (omega (arith, one_send)) other e
 
-  abbrev ended : History
+  abbrev pub ended : History
   ended = entered ∷ PlainEvent.begin first_begin ∷ PlainEvent.ended (first_end w) ∷ []
 
-  enters : EntersRight w (record { tick = 0; arc = 0; prio = 6; frame = 0 })
+  pub enters : EntersRight w (record { tick = 0; arc = 0; prio = 6; frame = 0 })
   enters = record { arc = on_ab w (from_one w s) 0; prio = sym (prio_six w (from_one w s) 0); sent = omega (arith, tick_is); known = omega (arith, one_send) }
 
-  begins : IsWholeBegin w first_begin
+  pub begins : IsWholeBegin w first_begin
   begins = record {
     whole = refl;
     right = λ f is.
@@ -89,7 +87,7 @@ module _ (w : Scenario) (s : SendsOneFrame w) where
         subst (BeginsRight w first_begin) zero_is (record { kind = refl; from = refl; arc = on_ab w (from_one w s) 0; sent = omega (arith, tick_is); known = omega (arith, one_send) });
   }
 
-  begun_right : Every (IsRight w) begun
+  pub begun_right : Every (IsRight w) begun
   begun_right = (enters, (begins, tt))
 
   body_right : Every (IsRight w) (one_frame_body w)
@@ -97,7 +95,7 @@ module _ (w : Scenario) (s : SendsOneFrame w) where
 
   -- ---- nothing waits behind the start
 
-  begun_waits : (t a p : ℕ) → 0 < t → Waiting begun a p t ≡ []
+  pub begun_waits : (t a p : ℕ) → 0 < t → Waiting begun a p t ≡ []
   unfolding Waiting
   begun_waits t a p lt = gone t a p (0 == a) (6 == p) lt
 
@@ -105,7 +103,7 @@ module _ (w : Scenario) (s : SendsOneFrame w) where
   unfolding Waiting
   body_waits t a p lt = gone t a p (0 == a) (6 == p) lt
 
-  begun_begins : (t a : ℕ) → t ≢ 72 → Every (λ (b : Begin). (e : PlainEvent) → ¬ EndDue w begun t b e) (Begins begun a)
+  pub begun_begins : (t a : ℕ) → t ≢ 72 → Every (λ (b : Begin). (e : PlainEvent) → ¬ EndDue w begun t b e) (Begins begun a)
   begun_begins t a other = selected (λ (b : Begin). (e : PlainEvent) → ¬ EndDue w begun t b e) first_begin (0 == a) (first_not_due begun t other)
 
   body_begins : (t a : ℕ) → t ≢ 72 → Every (λ (b : Begin). (e : PlainEvent) → ¬ EndDue w (one_frame_body w) t b e) (Begins (one_frame_body w) a)
@@ -150,7 +148,7 @@ module _ (w : Scenario) (s : SendsOneFrame w) where
   unfolding Waiting
   idle_start p = refl
 
-  first_tick : LegalUpTo w 10 begun
+  pub first_tick : LegalUpTo w 10 begun
   first_tick =
       let l0 : LegalUpTo w 0 [] = refl in
       let l1 : LegalUpTo w 1 [] = next w (from_one w s) 0 [] [] 0 Phase.sets refl (quiet_sets w (from_one w s) [] 0) l0 in
@@ -166,7 +164,7 @@ module _ (w : Scenario) (s : SendsOneFrame w) where
 
   -- ---- tick 72
 
-  ends_now : HappensIn w begun 72 (Phase.ends 0) (PlainEvent.ended (first_end w) ∷ [])
+  pub ends_now : HappensIn w begun 72 (Phase.ends 0) (PlainEvent.ended (first_end w) ∷ [])
   unfolding HappensIn
   ends_now =
       let size : 64 ≡ length (FrameOf w 0) = sym (frame_size) in
@@ -179,10 +177,10 @@ module _ (w : Scenario) (s : SendsOneFrame w) where
   ends_are zero d at = let same : first_end w ≡ d = cc at in ap (λ (x : Ended). x.ord) (sym same)
   ends_are (suc j) d at = absurd (cc at)
 
-  module _ (spelled : OneSpelled) where
+  module _ (spelled : OneSpelled) (none_lost : w.script.losses ≡ []) where
     gives_frame : Gives (Air w ended 0) 0 (Given.frame (FrameOf w 0))
     gives_frame =
-        whole_arrives spelled w ended 0 0 first_begin (first_end w) (record { 0 = 0 }) s.losses s.damages refl refl refl ends_are refl refl refl (sym (frame_size))
+        whole_arrives spelled w ended 0 0 first_begin (first_end w) (record { 0 = 0 }) none_lost s.damages refl refl refl ends_are refl refl refl (sym (frame_size))
         (sym (ap (λ (n : ℕ). if 0 + 64 == n then last_four (FrameOf w 0) else Mcrc (take (0 + 64 - 4) (FrameOf w 0))) (frame_size))) (omega (arith, size_is)) (omega (arith, size_is))
 
     arrives_now : HappensIn w ended 72 (Phase.arrivals 0) (arrived ∷ delivery w ∷ [])

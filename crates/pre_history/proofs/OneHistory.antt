@@ -1,6 +1,5 @@
 -- There is one history that is legal up to a moment.
-use Rattle.std.proofs.Common.{ℕ, zero, suc, ◌≡◌, length, sym, ◌∙◌, ap, inl, inr, subst}
-use Rattle.pre_mpacket.specs.Counters.{HoldsOf, IsAssError, IsSmdError, IsAssOk, IsFragRx}
+use Rattle.std.proofs.Common.{ℕ, zero, suc, ◌≡◌, length, sym, ◌∙◌, ap, subst}
 use Rattle.pre_history.specs.Scenario.{Scenario}
 use Rattle.pre_history.specs.Moments.{Phase, moment_at}
 use Rattle.pre_history.specs.History.{History}

@@ -25,8 +25,6 @@ pub record SendsAtStart (w : Scenario) : Type 0 where
   pub net : IsPair w.net
   pub streams : streams.IsPair w.streams
   pub sets : w.script.sets ≡ []
-  pub losses : w.script.losses ≡ []
-  pub damages : w.script.damages ≡ []
   pub stream_x : (f : ℕ) → (send w f).send.stream.0 ≡ 0
   pub size : (f : ℕ) → f < length w.script.sends → (send w f).send.size ≡ 64
   pub tick : (f : ℕ) → (send w f).send.tick.0 ≡ 0
@@ -107,19 +105,19 @@ module _ (w : Scenario) (s : SendsAtStart w) where
   pub frame_size : (f : ℕ) → f < length w.script.sends → length (FrameOf w f) ≡ 64
   frame_size f lt = let size = s.size f lt in length-FrameOf w f (omega (arith, size)) ∙ size
 
-  pub direct : IsDirect w
-  direct = record {
+  pub direct : w.script.losses ≡ [] → w.script.damages ≡ [] → IsDirect w
+  direct losses damages = record {
     routes = λ f lt. omega (arith, ap length (hops_ab f));
     once = λ f lt i j d less within. absurd (omega (arith, less, within, ap length (hops_ab f)));
     whole = λ f lt i d i_lt low. absurd (omega (arith, low, prio_six f, express_four (slice_index_or (hops w f) i d)));
-    losses = s.losses;
-    damages = s.damages;
+    losses = losses;
+    damages = damages;
     sizes = λ f lt. let size = s.size f lt in (omega (arith, size), omega (arith, size));
   }
 
-  pub plain : IsPlain w
-  plain = record {
-    direct = direct;
+  pub plain : w.script.losses ≡ [] → w.script.damages ≡ [] → IsPlain w
+  plain losses damages = record {
+    direct = direct losses damages;
     silent = λ a d lt is. go a d (subst (λ n. a < n) two_arcs lt) (sym (ap (λ (xs : List Arc). (slice_index_or xs a d).mode) s.net.arcs) ∙ is);
   }
     where

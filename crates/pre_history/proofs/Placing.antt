@@ -7,7 +7,6 @@ use Rattle.std.proofs.Math.Arith.{digits_mod}
 use Rattle.std.proofs.lemmas.Bool.Decides.{nat_tests}
 use Rattle.pre_script.specs.declared.scripts.SetLine.{SetLine}
 use Rattle.pre_history.specs.declared.events.Outcome.{Outcome}
-use Rattle.pre_history.specs.declared.events.Outcome.TheVariants as outcome
 use Rattle.pre_history.specs.Scenario.{Scenario, arc, row, capacity}
 use Rattle.pre_history.specs.History.{PlainEvent, History, Begin, Entry, Ended}
 use Rattle.pre_history.specs.Moments.{Phase, moments, phase_at}

@@ -1,6 +1,6 @@
 -- A legal history goes on, up to an alias.
 use Rattle.std.proofs.Common.{ℕ, suc, ◌≡◌, ◌≢◌, ◌⊎◌, ◌+◌, ◌*◌, ◌/◌, ◌%◌, ◌<◌, Bool, true, false, List, [], ◌∷◌, ◌++◌, length, refl, sym, ◌∙◌, ap, inl, inr, arith, subst, Option, Some}
-use Rattle.std.specs.Prelude.{if◌then◌else◌, slice_get, option_and_then, Any}
+use Rattle.std.specs.Prelude.{if◌then◌else◌, slice_get, option_and_then}
 use Rattle.pre_mpacket.specs.declared.packets.Kind.{Kind}
 use Rattle.pre_mpacket.specs.declared.packets.Kind.TheVariants as kind
 use Rattle.pre_mpacket.specs.Arrivals.{Given, Gives}
@@ -18,8 +18,8 @@ use Rattle.pre_history.specs.Starts.{SizeOf}
 use Rattle.pre_history.specs.Comings.{frame_at, next_arc, Comings, EntriesOf}
 use Rattle.pre_history.specs.Rules.{OneOrNone, Each, CheckOf, SetsAt, delivered, change, arrival, EndDue, Arriving, HappensIn, Happens}
 use Rattle.pre_history.specs.Placed.{HasPlace, number, moment_of}
-use Rattle.pre_history.specs.Legal.{LegalUpTo, IsLastOf, Alias, ArrivesAsAlias}
-use Rattle.pre_history.proofs.Lists.{any_at, there, within}
+use Rattle.pre_history.specs.Legal.{LegalUpTo, IsLastOf, ArrivesAsAlias}
+use Rattle.pre_history.proofs.Lists.{there, within}
 use Rattle.pre_history.proofs.Sizes.{size_one}
 use Rattle.pre_history.proofs.Decided.{size_found}
 use Rattle.pre_history.proofs.Placing.{place_at, numbered}

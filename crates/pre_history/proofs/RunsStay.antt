@@ -1,8 +1,7 @@
 -- Later events leave what is left of an interrupted frame as it is, and how many first fragments began.
-use Rattle.std.proofs.Common.{ℕ, ◌≡◌, ◌⊎◌, ◌==◌, ◌<◌, ◌≤◌, nat_lt, false, List, [], ◌∷◌, ◌++◌, refl, sym, ◌∙◌, ap, inl, inr, arith, subst, Option, Some, None, map, filter}
+use Rattle.std.proofs.Common.{ℕ, ◌≡◌, ◌⊎◌, ◌==◌, ◌<◌, ◌≤◌, nat_lt, List, [], ◌∷◌, ◌++◌, refl, sym, ◌∙◌, ap, inl, inr, arith, subst, Option, Some, None, map, filter}
 use Rattle.std.specs.Prelude.{◌↔◌, slice_get, MatchOption}
 use Rattle.std.specs.List.{AllZip, AllByRecursion as Every}
-use Rattle.std.proofs.lemmas.Bool.Decides.{nat_tests}
 use Rattle.std.proofs.lemmas.List.Elements.{filter_map-append, filter-append}
 use Rattle.pre_mpacket.specs.Arrivals.{is_start, is_fragment}
 use Rattle.pre_history.specs.Scenario.{Scenario}
@@ -12,7 +11,8 @@ use Rattle.pre_history.specs.Queries.{Begins, Ends, Packet, packet, end_of, Pack
 use Rattle.pre_history.proofs.IsLater.{IsLater, AllLater}
 use Rattle.pre_history.proofs.Lists.{every_filter, every_selected, no_append}
 use Rattle.pre_history.proofs.LaterEnds.{begin_later, end_later}
-use Rattle.pre_history.proofs.Zips.{zip_map, zip_filter, zip_from_last, zip_left, zip_right, every_of_all}
+use Rattle.pre_history.proofs.Zips.{zip_map, zip_filter, zip_from_last, zip_left, zip_right}
+use Rattle.pre_history.proofs.NatTests.{not_before}
 
 -- one mPacket as seen with and without events after the tick
 abbrev pub IsLike : ℕ → Packet → Packet → Type 0
@@ -29,9 +29,6 @@ like_left t p q (same, inr (e, is, lt, none)) by = let early : e.tick ≤ t = su
 like_right : (t : ℕ) (p q : Packet) → IsLike t p q → EndedBy t q → p ≡ q
 like_right t p q (same, inl ended) by = λ i. record { begin = same i; ended = ended i }
 like_right t p q (same, inr (e, is, lt, none)) by = absurd (subst (λ (o : Option Ended). MatchOption o ⊥ (λ e. e.tick ≤ t)) none by)
-
-not_before : (m n : ℕ) → n ≤ m → nat_lt m n ≡ false
-not_before m n le = grind (arith, nat_tests)
 
 module _ (h es : History) (t : ℕ) (later : AllLater t es) (a : ℕ) where
   -- the first end with an ordinal, with more behind

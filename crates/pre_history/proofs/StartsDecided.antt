@@ -1,6 +1,6 @@
 -- What begins on an arc of a legal history is decided.
 use Rattle.std.proofs.Common.{ℕ, zero, suc, ◌≡◌, ◌≢◌, ◌⊎◌, ◌%◌, ◌<◌, ◌≤◌, List, [], ◌∷◌, ◌++◌, length, refl, sym, ◌∙◌, ap, inl, inr, arith, subst, Option, Some, None}
-use Rattle.std.specs.Prelude.{All, MatchOption}
+use Rattle.std.specs.Prelude.{MatchOption}
 use Rattle.std.specs.List.{AllByRecursion as Every}
 use Rattle.std.proofs.lemmas.Bool.{cases_lt}
 use Rattle.pre_topo.specs.declared.arcs.Mode.{Mode}
@@ -18,9 +18,9 @@ use Rattle.pre_history.specs.Legal.{LegalUpTo}
 use Rattle.pre_history.proofs.Starts.{place_one}
 use Rattle.pre_history.proofs.Decided.{occupied_decided}
 use Rattle.pre_mpacket.proofs.Decisions.{IsDecided, both, one_of, negated, equal, at_most, equal_lists}
-use Rattle.pre_history.proofs.Zips.{every_of_all}
 use Rattle.pre_history.proofs.RunsStay.{EndedBy}
 use Rattle.pre_history.proofs.LinksDecided.{is_negotiate, active_decided, owed_decided, verify_wanted_decided, lldp_wanted_decided}
+use Rattle.pre_history.proofs.StartsRead.{place_bound}
 
 is_off : (m : Mode) → IsDecided (m ≡ mode.Off)
 is_off mode.Off = inl refl
@@ -64,14 +64,6 @@ at_place n = elim (equal n 1) [
     none n n1 n2 n3 n4 n5 n6 Item.lldp e = n4 (sym e)
     none n n1 n2 n3 n4 n5 n6 Item.rest e = n5 (sym e)
     none n n1 n2 n3 n4 n5 n6 Item.preemptable e = n6 (sym e)
-
-place_bound : (i : Item) → place i < 7
-place_bound Item.express = omega arith
-place_bound Item.respond = omega arith
-place_bound Item.verify = omega arith
-place_bound Item.lldp = omega arith
-place_bound Item.rest = omega arith
-place_bound Item.preemptable = omega arith
 
 module _ (w : Scenario) (h : History) (a t : ℕ) where
   -- the front of the highest priority below `high` at which a frame waits

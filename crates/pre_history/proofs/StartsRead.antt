@@ -18,11 +18,11 @@ use Rattle.pre_history.proofs.Free.{begins_before}
 use Rattle.pre_history.proofs.Turns.{tick_lt}
 use Rattle.pre_history.proofs.Starts.{rule_one}
 use Rattle.pre_history.proofs.Decided.{occupied_decided}
-use Rattle.pre_history.proofs.EndTurns.{is_eq}
 use Rattle.pre_history.specs.Read.{HasBegun, IsIdle}
 use Rattle.pre_history.proofs.Places.{all_later_from}
 use Rattle.pre_history.proofs.StartsStay.{rule_stays}
 use Rattle.pre_history.proofs.Around.{Around, around, begins_within, split_three}
+use Rattle.pre_history.proofs.NatTests.{is_eq}
 
 -- where nothing is the first item that is there, none is there
 none_there : (w : Scenario) (h : History) (a t : ℕ) → ¬ Occupied w h a t → ((c : Choice) → ¬ StartRule w h a t c) → (n : ℕ) (i : Item) (c : Choice) → place i < n → ¬ There w h a t i c
@@ -30,7 +30,7 @@ unfolding StartRule
 none_there w h a t free none zero i c lt there = absurd (omega (arith, lt))
 none_there w h a t free none (suc n) i c lt there = none c (free, (i, there, λ j d less. none_there w h a t free none n j d (omega (arith, lt, less))))
 
-place_bound : (i : Item) → place i < 7
+pub place_bound : (i : Item) → place i < 7
 place_bound Item.express = omega arith
 place_bound Item.respond = omega arith
 place_bound Item.verify = omega arith

@@ -1,7 +1,6 @@
 -- Later events leave what begins on an arc at a tick as it is.
-use Rattle.std.proofs.Common.{ℕ, ◌≡◌, ◌&&◌, ◌%◌, ◌<◌, ◌≤◌, nat_lt, Bool, true, false, ◌++◌, length, refl, sym, ◌∙◌, ap, inl, inr, arith, filter}
+use Rattle.std.proofs.Common.{ℕ, ◌≡◌, ◌&&◌, ◌%◌, ◌<◌, ◌≤◌, nat_lt, Bool, false, ◌++◌, length, sym, ◌∙◌, ap, inl, inr, arith, filter}
 use Rattle.std.specs.Prelude.{◌↔◌}
-use Rattle.std.proofs.lemmas.Bool.Decides.{nat_tests}
 use Rattle.std.proofs.lemmas.List.Elements.{filter_map-append, filter-append}
 use Rattle.std.proofs.lemmas.List.Sums.{length-filter}
 use Rattle.pre_mpacket.specs.declared.packets.Kind.{Kind}
@@ -20,13 +19,7 @@ use Rattle.pre_history.proofs.LaterEnds.{begin_later, occupied_later}
 use Rattle.pre_history.proofs.Lists.{every_selected, every_weaker, filter_nil, no_append}
 use Rattle.pre_history.proofs.LinksStay.{owed_stays, active_at, lldp_wanted_stays, verify_wanted_stays}
 use Rattle.pre_history.proofs.RunsStay.{interrupted_stays}
-
-not_before : (m n : ℕ) → n ≤ m → nat_lt m n ≡ false
-not_before m n le = grind (arith, nat_tests)
-
-and_false : (b : Bool) → (b && false) ≡ false
-and_false true = refl
-and_false false = refl
+use Rattle.pre_history.proofs.NatTests.{and_false, not_before}
 
 module _ (w : Scenario) (n : ℕ) (h es : History) (legal : LegalUpTo w n h) (t : ℕ) (later : AllLater t es) (a : ℕ) (a_lt : a < length w.net.arcs) where
   front_stays : (low high f : ℕ) → IsFront w (h ++ es) a t low high f ↔ IsFront w h a t low high f

@@ -1,17 +1,16 @@
 -- Later events leave the octets of an mPacket and its size as they are.
-use Rattle.std.proofs.Common.{ℕ, suc, ◌≡◌, ◌==◌, ◌&&◌, ◌+◌, ◌-◌, ◌*◌, ◌<◌, ◌≤◌, nat_le, Bool, true, false, List, ◌++◌, length, refl, sym, ◌∙◌, ap, inl, inr, arith, Some, None, filter_map, take}
+use Rattle.std.proofs.Common.{ℕ, suc, ◌≡◌, ◌==◌, ◌&&◌, ◌+◌, ◌-◌, ◌*◌, ◌<◌, ◌≤◌, nat_le, Bool, false, List, ◌++◌, length, refl, sym, ◌∙◌, ap, inl, inr, arith, Some, None, filter_map, take}
 use Rattle.std.specs.Prelude.{if◌then◌else◌, unwrap_or}
 use Rattle.std.specs.List.{AllByRecursion as Every}
 use Rattle.std.proofs.Math.Nat.{mul-le-mul_left}
 use Rattle.std.proofs.lemmas.Bool.{cases_lt}
 use Rattle.std.proofs.lemmas.List.Elements.{filter_map-append}
-use Rattle.std.proofs.lemmas.Bool.Decides.{nat_tests}
 use Rattle.pre_mpacket.specs.declared.packets.Kind.{Kind}
 use Rattle.pre_mpacket.specs.declared.packets.Kind.TheVariants as kind
 use Rattle.pre_mpacket.specs.Pieces.{Begun, CutRule}
 use Rattle.pre_history.specs.declared.events.What.{What}
 use Rattle.pre_history.specs.declared.events.What.TheVariants as what
-use Rattle.pre_history.specs.Scenario.{Scenario, last, arc}
+use Rattle.pre_history.specs.Scenario.{Scenario, arc}
 use Rattle.pre_history.specs.History.{PlainEvent, History, Begin}
 use Rattle.pre_history.specs.Selected.{active_on}
 use Rattle.pre_history.specs.Queries.{Waiting}
@@ -23,13 +22,8 @@ use Rattle.pre_history.specs.Rules.{CheckOf, last_four}
 use Rattle.pre_history.proofs.IsLater.{IsLater, AllLater}
 use Rattle.pre_history.proofs.Lists.{every_weaker, none_selected, no_append}
 use Rattle.pre_history.proofs.Later.{waiting_later}
-
-not_by : (m n : ℕ) → n < m → nat_le m n ≡ false
-not_by m n lt = grind (arith, nat_tests)
-
-and_false : (b : Bool) → (b && false) ≡ false
-and_false true = refl
-and_false false = refl
+use Rattle.pre_base.specs.Last.{last}
+use Rattle.pre_history.proofs.NatTests.{and_false, not_by}
 
 untold : (a t : ℕ) (e : PlainEvent) → IsLater (suc t) e → active_on a t e ≡ None
 untold a t (PlainEvent.active s b v) later =

@@ -2,12 +2,10 @@
 use Rattle.std.proofs.Common.{ℕ, zero, suc, ◌≡◌, ◌==◌, ◌&&◌, ◌+◌, ◌*◌, ◌<◌, ◌≤◌, nat_le, Bool, true, false, List, [], ◌∷◌, ◌++◌, length, refl, sym, ◌∙◌, ap, inl, inr, arith, subst, Some, None, filter_map}
 use Rattle.std.specs.Prelude.{◌↔◌, if◌then◌else◌, unwrap_or}
 use Rattle.std.specs.Bool.{Decides, one_answer}
-use Rattle.std.proofs.Math.Nat.{mul-le-mul_right}
-use Rattle.std.proofs.lemmas.Bool.{cases_lt}
 use Rattle.std.proofs.lemmas.Bool.Decides.{nat_tests}
 use Rattle.std.proofs.lemmas.List.Elements.{filter_map-append}
 use Rattle.pre_topo.specs.declared.arcs.Mode.TheVariants as mode
-use Rattle.pre_history.specs.Scenario.{Scenario, arc, last}
+use Rattle.pre_history.specs.Scenario.{Scenario, arc}
 use Rattle.pre_history.specs.Moments.{Phase, moments, Moment, moment_at}
 use Rattle.pre_history.specs.History.{PlainEvent, History}
 use Rattle.pre_history.specs.Selected.{active_on}
@@ -24,22 +22,12 @@ use Rattle.pre_history.proofs.Turns.{tick_le, tick_lt}
 use Rattle.pre_history.proofs.Steady.{less_or_equal, number_lt}
 use Rattle.pre_history.proofs.Stays.{told_same}
 use Rattle.pre_history.proofs.Unread.{LaterGives, IsUnread, active_stays, reverse_within}
-
-not_by : (m n : ℕ) → n < m → nat_le m n ≡ false
-not_by m n lt = grind (arith, nat_tests)
+use Rattle.pre_base.specs.Last.{last}
+use Rattle.pre_history.proofs.NatTests.{is_eq, not_by}
+use Rattle.pre_history.proofs.Places.{later_tick}
 
 is_by : (m n : ℕ) → m ≤ n → nat_le m n ≡ true
 is_by m n le = grind (arith, nat_tests)
-
-is_eq : (m n : ℕ) → m ≡ n → (m == n) ≡ true
-is_eq m n e = grind (arith, nat_tests)
-
--- a moment at an earlier place that isn't earlier is of a later tick
-later_tick : (size s t j k : ℕ) → j < k → s * size + k ≤ t * size + j → s < t
-later_tick size s t j k lt le = elim (cases_lt s t) [
-  | inl done ↦ done
-  | inr more ↦ let reach : t * size ≤ s * size = mul-le-mul_right size more in absurd (omega (arith, reach, le, lt))
-]
 
 decides_like : {P Q : Type 0} (b : Bool) → Decides b P → Q ↔ P → Decides b Q
 decides_like b decides like = (λ is. like.1 (decides.0 is), λ q. decides.1 (like.0 q))

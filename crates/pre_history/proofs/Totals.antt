@@ -1,14 +1,14 @@
 -- There is one legal history, or one first alias.
-use Rattle.std.proofs.Common.{ℕ, suc, ◌≡◌, ◌⊎◌, ◌+◌, ◌*◌, ◌<◌, ◌≤◌, [], ◌∷◌, ◌++◌, length, refl, sym, ◌∙◌, ap, inl, inr, arith, subst, Some, zero, List}
-use Rattle.std.specs.Prelude.{slice_get, count_by}
+use Rattle.std.proofs.Common.{ℕ, suc, ◌≡◌, ◌⊎◌, ◌+◌, ◌*◌, ◌<◌, ◌≤◌, [], ◌∷◌, ◌++◌, length, refl, sym, ◌∙◌, ap, inl, inr, arith, subst, zero, List}
+use Rattle.std.specs.Prelude.{count_by}
 use Rattle.std.proofs.lemmas.Bool.{cases_lt}
 use Rattle.std.proofs.Math.Nat.{mul-le-mul_right}
-use Rattle.pre_history.specs.Scenario.{Scenario, arc}
+use Rattle.pre_history.specs.Scenario.{Scenario}
 use Rattle.pre_history.specs.Moments.{Phase, Moment, moments}
-use Rattle.pre_history.specs.History.{PlainEvent, History, Ended, Counts}
-use Rattle.pre_history.specs.Queries.{Ends, Begins, Arrivals}
+use Rattle.pre_history.specs.History.{PlainEvent, History, Counts}
+use Rattle.pre_history.specs.Queries.{Begins, Arrivals}
 use Rattle.pre_history.specs.Placed.{moment_of}
-use Rattle.pre_history.specs.Legal.{LegalUpTo, LegalBefore, Legal, ArrivesAsAlias, FirstAliasAt, last_moment, closing, CountLines, count_line}
+use Rattle.pre_history.specs.Legal.{LegalBefore, Legal, ArrivesAsAlias, FirstAliasAt, last_moment, closing, CountLines, count_line}
 use Rattle.pre_history.proofs.OneHistory.{legal_one}
 use Rattle.pre_history.proofs.FirstAliases.{AliasNext, arrivals_at, goes_on, not_both}
 use Rattle.pre_mpacket.proofs.CountersFound.{counters_some}

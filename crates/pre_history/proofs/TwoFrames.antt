@@ -27,14 +27,13 @@ use Rattle.pre_history.proofs.Fronts.{IsRight, EntersRight, BeginsRight, IsWhole
 use Rattle.pre_history.proofs.Undamaged.{user_frame}
 use Rattle.pre_history.proofs.PairFacts.{express_four, SendsAtStart, cost_one, far_end, first_ab, on_ab, no_next, prio_six, no_delay, frame_size}
 use Rattle.pre_history.proofs.Quiet.{selected, comings_are, not_due}
+use Rattle.pre_history.proofs.NatTests.{cases_eq}
 
 pub from_two : (w : Scenario) → SendsTwoFrames w → SendsAtStart w
 from_two w s = record {
   net = s.net;
   streams = s.streams;
   sets = s.sets;
-  losses = s.losses;
-  damages = s.damages;
   stream_x = λ f. ap (λ (xs : List SendLine). (slice_index_or xs f no_send).send.stream.0) s.sends ∙ stream f;
   size = λ f lt. ap (λ (xs : List SendLine). (slice_index_or xs f no_send).send.size) s.sends ∙ size f (subst (λ n. f < n) (ap length s.sends) lt);
   tick = λ f. ap (λ (xs : List SendLine). (slice_index_or xs f no_send).send.tick.0) s.sends ∙ tick f;
@@ -75,9 +74,6 @@ both_gone t true true lt =
     rw (early, early', by) refl
 both_gone t true false lt = refl
 both_gone t false c lt = refl
-
-cases_eq : (m n : ℕ) → (m ≡ n) ⊎ (m ≢ n)
-cases_eq m n = grind arith
 
 no_eq : (m n : ℕ) → m ≢ n → (m == n) ≡ false
 no_eq m n e = grind (arith, nat_tests)

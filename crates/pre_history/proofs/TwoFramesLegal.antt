@@ -134,7 +134,7 @@ module _ (spelled : OneSpelled) (w : Scenario) (s : SendsTwoFrames w) where
         let end_at : last_moment w ≡ 10010 = ap (λ (n : ℕ). (n + 1) * moments (length w.net.arcs)) until ∙ ap (λ (n : ℕ). 1001 * moments n) (two_arcs w (at w s)) in (
           two_frames_body w,
           [],
-          (subst (λ n. LegalUpTo w n (two_frames_body w)) (sym end_at) body_legal, no_alias spelled one w (plain w (at w s)) 10010 (two_frames_body w) body_legal),
-          no_counts_told spelled one w (plain w (at w s)) 10010 (two_frames_body w) body_legal,
+          (subst (λ n. LegalUpTo w n (two_frames_body w)) (sym end_at) body_legal, no_alias spelled one w (plain w (at w s) s.losses s.damages) 10010 (two_frames_body w) body_legal),
+          no_counts_told spelled one w (plain w (at w s) s.losses s.damages) 10010 (two_frames_body w) body_legal,
           λ i. two_frames_body w ++ PlainEvent.end (record { until = sym until i; sent = sym sent i; delivered = 2; dropped = 0 }) ∷ [],
         )

@@ -2,7 +2,6 @@
 use Rattle.std.proofs.Common.{ℕ, zero, suc, ◌≡◌, ◌==◌, ◌+◌, ◌-◌, ◌≤◌, Bool, true, false, List, [], ◌∷◌, ◌++◌, length, take, drop, refl, sym, ◌∙◌, ap, arith, subst, Some, None, map, filter, length-append}
 use Rattle.std.specs.Prelude.{slice_get, if◌then◌else◌, option_map, fold}
 use Rattle.std.specs.List.{list_any}
-use Rattle.std.proofs.lemmas.Bool.Decides.{nat_tests}
 use Rattle.pre_base.specs.declared.limits.TheConstants.{GREATEST_FRAME}
 use Rattle.pre_base.specs.declared.numbers.FrameNo.{FrameNo}
 use Rattle.pre_crc.specs.Checks.{Fcs, Mcrc}
@@ -23,6 +22,7 @@ use Rattle.pre_history.specs.Starts.{SizeOf}
 use Rattle.pre_history.specs.Rules.{CheckOf, last_four}
 use Rattle.pre_history.proofs.Free.{first_numbered, packet_at}
 use Rattle.pre_history.proofs.Spelled.{OneSpelled, express_spelled, express_gives}
+use Rattle.pre_history.proofs.NatTests.{is_eq}
 
 take-first : (xs ys : List ℕ) (n : ℕ) → n ≡ length xs → take n (xs ++ ys) ≡ xs
 take-first [] ys zero is = refl
@@ -66,9 +66,6 @@ arrives_as_sent w h b e a no_loss no_damage ended =
     let same : Damaged w b (SentOctets w h b e) ≡ SentOctets w h b e = ap (λ (ds : List Damage). fold (λ xs d. xored (smd_place b.kind + d.offset) d.octets xs) (SentOctets w h b e) (filter (names_damage b) ds)) no_damage in
     ap (λ (x : Bool). if x then None else option_map (Damaged w b) (option_map (SentOctets w h b) (end_of h a b.ord))) kept
     ∙ (ap (λ o. option_map (Damaged w b) (option_map (SentOctets w h b) o)) ended ∙ ap Some same)
-
-is_eq : (m n : ℕ) → m ≡ n → (m == n) ≡ true
-is_eq m n e = grind (arith, nat_tests)
 
 -- the octets of an mPacket that carries a whole frame
 pub whole_sent : (w : Scenario) (h : History) (b : Begin) (e : Ended) (f : FrameNo) → b.kind ≡ kind.Express → b.from ≡ 0 → b.what ≡ what.Frame f

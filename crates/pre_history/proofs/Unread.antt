@@ -13,7 +13,7 @@ use Rattle.pre_topo.specs.Arcs.{reverse_of}
 use Rattle.pre_mpacket.specs.Spelling.{head_of}
 use Rattle.pre_mpacket.specs.Arrivals.{Given, Gives}
 use Rattle.pre_lldp.specs.LinkState as link
-use Rattle.pre_history.specs.Scenario.{Scenario, arc, last}
+use Rattle.pre_history.specs.Scenario.{Scenario, arc}
 use Rattle.pre_history.specs.History.{PlainEvent, History, Begin, Ended, Arrive}
 use Rattle.pre_history.specs.Selected.{begin_on, ended_on, arrive_on, active_on, is_verify, is_lldp_result, is_respond_result}
 use Rattle.pre_history.specs.Queries.{Begins, Ends, Arrivals, Packet, Packets, PacketsBefore, packet, end_of}
@@ -30,6 +30,8 @@ use Rattle.pre_history.proofs.LaterEnds.{packet_back, split_at}
 use Rattle.pre_history.proofs.Undamaged.{air_at}
 use Rattle.pre_history.proofs.Steady.{costs}
 use Rattle.pre_history.proofs.InOrder.{steady}
+use Rattle.pre_base.specs.Last.{last}
+use Rattle.pre_history.proofs.NatTests.{and_false, not_by, by_then}
 
 -- no query of link state at the tick reads the event
 abbrev pub IsUnread : ℕ → PlainEvent → Type 0
@@ -48,21 +50,11 @@ IsUnread t (PlainEvent.end e) = Unit {0}
 abbrev pub LaterGives : Type 0
 LaterGives = (A B : List (Option (List ℕ))) (i : ℕ) (g : Given) → i < length A → Gives (A ++ B) i g ↔ Gives A i g
 
-not_by : (m n : ℕ) → n < m → nat_le m n ≡ false
-not_by m n lt = grind (arith, nat_tests)
-
-by_then : (m n : ℕ) → nat_le m n ≡ true → m ≤ n
-by_then m n is = grind (arith, nat_tests)
-
 before_then : (m n : ℕ) → nat_lt m n ≡ true → m < n
 before_then m n is = grind (arith, nat_tests)
 
 is_before : (m n : ℕ) → m < n → nat_lt m n ≡ true
 is_before m n lt = grind (arith, nat_tests)
-
-and_false : (b : Bool) → (b && false) ≡ false
-and_false true = refl
-and_false false = refl
 
 untold : (c s t : ℕ) → s < t → (e : PlainEvent) → IsUnread t e → active_on c s e ≡ None
 untold c s t lt (PlainEvent.active u b v) later =

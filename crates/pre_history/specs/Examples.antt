@@ -9,20 +9,34 @@ use Rattle.pre_history.specs.declared.events.Outcome.TheVariants as outcome
 use Rattle.pre_history.specs.Scenario.{Scenario, FrameOf}
 use Rattle.pre_history.specs.History.{Begin, Ended, PlainEvent, History}
 use Rattle.pre_history.specs.Rules.{last_four}
+use Rattle.pre_script.specs.declared.scripts.Loss.{Loss}
 
 -- send 0 x 64
 abbrev pub first_send : SendLine
 first_send = record { send = record { tick = record { 0 = 0 }; stream = record { 0 = 0 }; size = 64 }; line = 1 }
 
 -- the script says this, and `until 5000`
-pub record SendsOneFrame (w : Scenario) : Type 0 where
+pub record SendsFirst (w : Scenario) : Type 0 where
   pub net : IsPair w.net
   pub streams : streams.IsPair w.streams
   pub sends : w.script.sends ≡ first_send ∷ []
   pub sets : w.script.sets ≡ []
-  pub losses : w.script.losses ≡ []
   pub damages : w.script.damages ≡ []
   pub until : w.script.until.0 ≡ 5000
+
+-- and nothing more
+pub record SendsOneFrame (w : Scenario) : Type 0 where
+  pub script : SendsFirst w
+  pub losses : w.script.losses ≡ []
+
+-- lose a>b 0
+abbrev pub first_loss : Loss
+first_loss = record { arc = record { 0 = 0 }; ordinal = 0 }
+
+-- and loses its mPacket
+pub record LosesOneFrame (w : Scenario) : Type 0 where
+  pub script : SendsFirst w
+  pub losses : w.script.losses ≡ first_loss ∷ []
 
 abbrev pub entered : PlainEvent
 entered = PlainEvent.enter (record { tick = 0; arc = 0; prio = 6; frame = 0 })
@@ -51,6 +65,20 @@ module _ (w : Scenario) where
   -- and 5000 end 1 1 0
   abbrev pub one_frame : History
   one_frame = one_frame_body ++ PlainEvent.end (record { until = 5000; sent = 1; delivered = 1; dropped = 0 }) ∷ []
+
+-- ---- the same frame, lost
+
+abbrev pub lost : PlainEvent
+lost = PlainEvent.arrive (record { tick = 72; arc = 0; ord = 0; result = outcome.Lost })
+
+module _ (w : Scenario) where
+  -- 0 enter a>b 6 0, 0 begin a>b 0 E 0 0, 72 ended a>b 0 64 CHECK, 72 arrive a>b 0 lost
+  abbrev pub lost_frame_body : History
+  lost_frame_body = entered ∷ PlainEvent.begin first_begin ∷ PlainEvent.ended (first_end w) ∷ lost ∷ []
+
+  -- and 5000 end 1 0 0
+  abbrev pub lost_frame : History
+  lost_frame = lost_frame_body ++ PlainEvent.end (record { until = 5000; sent = 1; delivered = 0; dropped = 0 }) ∷ []
 
 -- ---- two frames back to back
 

@@ -13,7 +13,7 @@ use Rattle.pre_mpacket.specs.Arrivals.{Given, Gives}
 use Rattle.pre_history.specs.declared.events.Outcome.{Outcome}
 use Rattle.pre_history.specs.declared.events.Outcome.TheVariants as outcome
 use Rattle.pre_history.specs.declared.events.What.TheVariants as what
-use Rattle.pre_history.specs.Scenario.{Scenario, last, arc}
+use Rattle.pre_history.specs.Scenario.{Scenario, arc}
 use Rattle.pre_lldp.specs.LldpLayout.{advert_of}
 use Rattle.pre_lldp.specs.Ages.{Heard, runs_out}
 use Rattle.pre_lldp.specs.LinkState as link
@@ -21,6 +21,7 @@ use Rattle.pre_history.specs.History.{Arrive, History}
 use Rattle.pre_history.specs.Selected.{is_verify, is_lldp_result, is_respond_result}
 use Rattle.pre_history.specs.Queries.{PacketsBefore, Begins, Arrivals, SettingOf}
 use Rattle.pre_history.specs.Octets.{Air}
+use Rattle.pre_base.specs.Last.{last}
 
 module _ (h : History) (a : ℕ) where
   -- an mPacket of that kind began on the arc at the tick

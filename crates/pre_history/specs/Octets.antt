@@ -12,12 +12,13 @@ use Rattle.pre_mpacket.specs.declared.packets.Kind.TheVariants as kind
 use Rattle.pre_mpacket.specs.Spelling.{head_of}
 use Rattle.pre_history.specs.declared.events.What.{What}
 use Rattle.pre_history.specs.declared.events.What.TheVariants as what
-use Rattle.pre_history.specs.Scenario.{Scenario, last, arc, FrameOf}
+use Rattle.pre_history.specs.Scenario.{Scenario, arc, FrameOf}
 use Rattle.pre_lldp.specs.declared.adverts.Advert.{Advert}
 use Rattle.pre_lldp.specs.LldpLayout.{lldp_frame}
 use Rattle.pre_history.specs.History.{Begin, Ended, History}
 use Rattle.pre_history.specs.Selected.{active_on}
 use Rattle.pre_history.specs.Queries.{Packet, Packets, SettingOf}
+use Rattle.pre_base.specs.Last.{last}
 
 -- the time to live and the enabled bit under a setting
 abbrev pub ttl_under : Scenario → Setting → ℕ

@@ -6,7 +6,7 @@ use Rattle.pre_history.specs.History.{Begin, Ended, Arrive, History}
 use Rattle.pre_history.specs.Queries.{Begins, Ends, Arrivals}
 use Rattle.pre_history.specs.Starts.{SizeOf}
 use Rattle.pre_history.specs.Rules.{CheckOf}
-use Rattle.pre_history.specs.Placed.{number, moment_of}
+use Rattle.pre_history.specs.Placed.{moment_of}
 use Rattle.pre_history.specs.Moments.{Phase}
 
 -- mPackets, their ends and their arrivals, at so many ticks for an octet and such a delay

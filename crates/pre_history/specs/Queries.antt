@@ -1,13 +1,14 @@
 -- What is read off a history: each query reads the whole list, at a tick.
-use Rattle.std.specs.Prelude.{ℕ, ◌+◌, ◌-◌, ◌*◌, ◌%◌, ◌<◌, ◌≤◌, ◌≡◌, ◌≢◌, ◌==◌, ◌&&◌, not, nat_lt, nat_le, Bool, List, [], ◌∷◌, ◌++◌, length, map, filter, filter_map, flat_map, take, drop, Any, All, Option, Some, None, MatchOption, slice_get, option_map, option_and_then, unwrap_or, ⊤}
+use Rattle.std.specs.Prelude.{ℕ, ◌+◌, ◌-◌, ◌*◌, ◌%◌, ◌<◌, ◌≤◌, ◌≡◌, ◌≢◌, ◌==◌, ◌&&◌, not, nat_lt, nat_le, Bool, List, [], ◌∷◌, ◌++◌, length, map, filter, filter_map, flat_map, take, drop, Any, Option, Some, None, MatchOption, slice_get, option_map, option_and_then, unwrap_or, ⊤}
 use Rattle.std.specs.List.{list_any, AllByRecursion as Every}
 use Rattle.pre_base.specs.declared.limits.TheConstants.{GAP}
 use Rattle.pre_script.specs.declared.scripts.Setting.{Setting}
 use Rattle.pre_script.specs.declared.scripts.Setting.TheVariants as setting
 use Rattle.pre_mpacket.specs.Arrivals.{is_start, is_fragment}
-use Rattle.pre_history.specs.Scenario.{Scenario, last, arc, FrameOf}
+use Rattle.pre_history.specs.Scenario.{Scenario, arc, FrameOf}
 use Rattle.pre_history.specs.History.{Begin, Ended, Arrive, Delivery, History}
 use Rattle.pre_history.specs.Selected.{RingEntry, begin_on, ended_on, arrive_on, entry_on, delivery_of, what_is, frame_count, frame_number, from_last}
+use Rattle.pre_base.specs.Last.{last}
 
 -- an mPacket: its `begin` event, with its `ended` event where it has one
 pub record Packet : Type 0 where

@@ -1,5 +1,5 @@
 -- What the moments of a tick had, read off a whole history.
-use Rattle.std.specs.Prelude.{ℕ, ◌+◌, ◌*◌, ◌<◌, ◌≡◌, ◌≢◌, ◌⊎◌, ◌++◌, List, ◌∷◌, length, Any, Some, None, slice_get, take}
+use Rattle.std.specs.Prelude.{ℕ, ◌<◌, ◌≡◌, ◌≢◌, ◌⊎◌, ◌++◌, List, ◌∷◌, length, Any, Some, None, slice_get, take}
 use Rattle.pre_mpacket.specs.Arrivals.{Given, Gives}
 use Rattle.pre_history.specs.declared.events.Outcome.TheVariants as outcome
 use Rattle.pre_history.specs.Scenario.{Scenario, arc}

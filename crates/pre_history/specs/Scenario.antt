@@ -1,5 +1,5 @@
 -- What a run is given: a network, streams and a script that fit each other.
-use Rattle.std.specs.Prelude.{ℕ, List, [], ◌∷◌, slice_index, slice_index_or, slice_get, IsSome, Option, Some, None}
+use Rattle.std.specs.Prelude.{ℕ, List, [], slice_index, slice_index_or, slice_get, IsSome, Option, None}
 use Rattle.std.specs.Option.{option_map_or}
 use Rattle.pre_base.specs.declared.numbers.NodeId.{NodeId}
 use Rattle.pre_topo.specs.declared.network.Network.{Network}
@@ -12,17 +12,12 @@ use Rattle.pre_streams.specs.declared.rows.Streams.{Streams}
 use Rattle.pre_script.specs.declared.scripts.Script.{Script}
 use Rattle.pre_script.specs.declared.scripts.SendLine.{SendLine}
 use Rattle.pre_frame.specs.Layout.{frame_of}
+use Rattle.pre_base.specs.Last.{last}
 
 pub record Scenario : Type 0 where
   pub net : Network
   pub streams : Streams
   pub script : Script
-
--- the last element
-abbrev pub last : {X : Type 0} → List X → Option X
-last [] = None
-last (x ∷ []) = Some x
-last (x ∷ y ∷ xs) = last (y ∷ xs)
 
 -- what a number past the end of a list names: it is never asked for
 abbrev pub no_arc : Arc

@@ -1,12 +1,12 @@
 -- Events that can be told over a network: what their types and the network ask of them.
-use Rattle.std.specs.Prelude.{ℕ, ◌<◌, ◌^◌, List, [], ◌∷◌, ◌++◌, length}
+use Rattle.std.specs.Prelude.{ℕ, ◌<◌, ◌^◌, List, length}
 use Rattle.std.specs.List.{AllByRecursion as Every}
 use Rattle.pre_text.specs.Reading.{AreOctets}
 use Rattle.pre_topo.specs.declared.network.Network.{Network}
 use Rattle.pre_history.specs.declared.events.What.{What}
 use Rattle.pre_history.specs.declared.events.What.TheVariants as what
 use Rattle.pre_history.specs.History.{PlainEvent, History}
-use Rattle.pre_history.specs.Names.{HasArc, HasNode, IsOf, AreOf}
+use Rattle.pre_history.specs.Names.{HasArc, HasNode}
 use Rattle.pre_history.specs.Plain.{IsKind}
 
 abbrev pub IsNumber : ℕ → Type 0

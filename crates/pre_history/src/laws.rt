@@ -9,7 +9,7 @@ ghost use Rattle.pre_mpacket.specs.Pieces.{CutRule, IsBoundary};
 ghost use Rattle.pre_history.specs.Octets.{Air, ToldActive};
 ghost use Rattle.pre_history.specs.Deliveries.{ComeOnce, DeliversOnce, IsDirect, IsPlain};
 ghost use Rattle.pre_history.specs.Comings.{Comings, Coming, entry_for};
-ghost use Rattle.pre_history.specs.Examples.{SendsOneFrame, SendsTwoFrames, one_frame, two_frames};
+ghost use Rattle.pre_history.specs.Examples.{SendsOneFrame, SendsTwoFrames, one_frame, two_frames, LosesOneFrame, lost_frame};
 ghost use Rattle.pre_history.specs.History.{Begin, Ended, History, Delivery, Entry, PlainEvent};
 ghost use Rattle.pre_history.specs.Legal.{Alias, CountLines, Legal, LegalUpTo, LegalBefore, FirstAliasAt, ArrivesAsAlias};
 ghost use Rattle.pre_history.specs.LinkState.{Active, AreHeard, Good, RespondTicks, VerifiesBefore, VerifyWanted, Falls, LldpWanted, RespondOwed, Rises};
@@ -109,11 +109,12 @@ pub fn direct_arrivals()
     pre_mpacket::one_given();
 }
 
-/// There are legal histories: those of the smallest scripts that send a frame and two frames back to back, over the
-/// built-in network and streams.
+/// There are legal histories: those of the smallest scripts that send a frame, two frames back to back, and a frame that is lost,
+/// over the built-in network and streams.
 pub fn small_histories_are_legal()
     ensures one_frame { (w : Scenario) → SendsOneFrame w → Legal w (one_frame w) }
     ensures two_frames { (w : Scenario) → SendsTwoFrames w → Legal w (two_frames w) }
+    ensures lost_frame { (w : Scenario) → LosesOneFrame w → Legal w (lost_frame w) }
 {
     pre_mpacket::one_mpacket();
     pre_mpacket::one_given();

@@ -1,17 +1,15 @@
 -- What began on an arc, by the item that was there at its tick.
-use Rattle.std.proofs.Common.{ℕ, zero, suc, ◌≡◌, ◌⊎◌, ◌+◌, ◌*◌, ◌<◌, ◌≤◌, length, refl, sym, ◌∙◌, ap, inl, inr, arith, Some}
+use Rattle.std.proofs.Common.{ℕ, ◌≡◌, ◌+◌, ◌*◌, ◌<◌, length, refl, Some}
 use Rattle.std.specs.Prelude.{slice_get}
 use Rattle.pre_history.specs.Scenario.{Scenario}
 use Rattle.pre_history.specs.History.{History, Begin}
-use Rattle.pre_history.specs.Queries.{Begins, Ends}
+use Rattle.pre_history.specs.Queries.{Begins}
 use Rattle.pre_history.specs.Starts.{Item, Choice, There, StartRule}
 use Rattle.pre_history.specs.Placed.{number}
 use Rattle.pre_history.specs.Legal.{LegalUpTo}
-use Rattle.pre_history.proofs.Lists.{there, within, every_at, any_at, one_at}
+use Rattle.pre_history.proofs.Lists.{every_at, any_at}
 use Rattle.pre_history.proofs.Placing.{placed}
 use Rattle.pre_history.proofs.Free.{begins_before}
-use Rattle.pre_history.proofs.Steady.{costs}
-use Rattle.pre_history.proofs.InOrder.{steady}
 use Rattle.pre_history.proofs.StartsRead.{starts_read}
 
 abbrev pub choice_of : Begin → Choice

@@ -1,30 +1,23 @@
 -- A frame that is sent comes to the first arc of its route, and one that arrived to the next one, when the latency is over.
-use Rattle.std.proofs.Common.{ℕ, zero, suc, ◌≡◌, ◌⊎◌, ◌==◌, ◌&&◌, ◌+◌, ◌*◌, ◌<◌, ◌≤◌, Bool, true, false, List, [], ◌∷◌, ◌++◌, length, refl, sym, ◌∙◌, ap, inl, inr, arith, subst, Option, Some, None, filter_map}
+use Rattle.std.proofs.Common.{ℕ, zero, suc, ◌≡◌, ◌⊎◌, ◌==◌, ◌&&◌, ◌+◌, ◌*◌, ◌<◌, ◌≤◌, Bool, true, false, List, [], ◌∷◌, ◌++◌, length, refl, sym, ◌∙◌, ap, inl, inr, arith, subst, Some, None}
 use Rattle.std.specs.Prelude.{if◌then◌else◌, slice_get, flat_map, option_map, option_and_then}
-use Rattle.std.specs.List.{cons_option}
-use Rattle.std.proofs.lemmas.Bool.Decides.{nat_tests}
-use Rattle.std.proofs.lemmas.List.Elements.{All-from_recursion, filter_map-append}
 use Rattle.pre_script.specs.declared.scripts.SendLine.{SendLine}
 use Rattle.pre_history.specs.declared.events.Outcome.TheVariants as outcome
 use Rattle.pre_history.specs.Scenario.{Scenario, row, send, no_send, capacity, latency}
 use Rattle.pre_history.specs.History.{PlainEvent, History, Entry, Arrive}
-use Rattle.pre_history.specs.Selected.{arrive_on, is_frame_result}
-use Rattle.pre_history.specs.Queries.{Arrivals, Ends, Waiting}
+use Rattle.pre_history.specs.Selected.{is_frame_result}
+use Rattle.pre_history.specs.Queries.{Arrivals, Waiting}
 use Rattle.pre_history.specs.Comings.{Coming, entry_event, entry_for, next_arc, first_arc, sends_from, relayed, below, frame_at}
-use Rattle.pre_history.specs.Placed.{number, IsBefore}
-use Rattle.pre_history.specs.Legal.{LegalUpTo, LegalBefore, Alias}
-use Rattle.pre_history.proofs.Lists.{there, within, at_front, at_last, every_at, every_placed, every_selected, in_selected}
+use Rattle.pre_history.specs.Placed.{number}
+use Rattle.pre_history.specs.Legal.{LegalUpTo}
+use Rattle.pre_history.proofs.Lists.{there, at_front, at_last, in_selected}
 use Rattle.pre_history.proofs.Relays.{relays}
-use Rattle.pre_history.proofs.Placing.{placed}
 use Rattle.pre_history.proofs.InOrder.{steady}
-use Rattle.pre_history.specs.Cuts.{IsCut}
 use Rattle.pre_history.specs.Read.{HasEntry}
 use Rattle.pre_laws.specs.Routed.{IsEntry}
-use Rattle.pre_history.proofs.Zips.{every_of_all}
-use Rattle.pre_history.proofs.Aliases.{alias_stays}
 use Rattle.pre_history.proofs.EntriesRead.{entries_placed}
-use Rattle.pre_history.proofs.FirstAliases.{arrives_within}
 use Rattle.pre_laws.proofs.Fitting.{read_one}
+use Rattle.pre_history.proofs.NatTests.{is_eq}
 
 -- ---- lists
 
@@ -51,9 +44,6 @@ in_below (suc n) a lt = go (order a n (omega (arith, lt))) (λ less. in_below n 
     go : (a ≡ n) ⊎ (a < n) → (a < n → (k : ℕ) × (slice_get (below n) k ≡ Some a)) → (k : ℕ) × (slice_get (below n ++ n ∷ []) k ≡ Some a)
     go (inl same) rest = (length (below n), at_last (below n) n ∙ ap Some (sym same))
     go (inr less) rest = let o = rest less in (o.0, at_front (below n) (n ∷ []) o.0 a o.1)
-
-is_eq : (m n : ℕ) → m ≡ n → (m == n) ≡ true
-is_eq m n e = grind (arith, nat_tests)
 
 in_sends : (w : Scenario) (t f : ℕ) (ss : List SendLine) (j : ℕ) (s : SendLine) → slice_get ss j ≡ Some s → s.send.tick.0 ≡ t → (k : ℕ) × (slice_get (sends_from w t f ss) k ≡ Some (record { arc = first_arc w (f + j); frame = f + j }))
 in_sends w t f [] j s at now = absurd (cc at)

@@ -13,10 +13,9 @@ use Rattle.pre_history.specs.Queries.{Begins, Ends, Arrivals}
 use Rattle.pre_history.specs.Octets.{Air, whole_of, WholeOf, AdvertAt}
 use Rattle.pre_history.specs.Received.{Result, result_of}
 use Rattle.pre_history.specs.Legal.{LegalBefore, Alias}
-use Rattle.pre_history.proofs.Lists.{there, within, every_at}
+use Rattle.pre_history.proofs.Lists.{there, within}
 use Rattle.pre_history.proofs.InOrder.{steady}
 use Rattle.pre_laws.specs.Routed.{ArrivesWhole}
-use Rattle.pre_history.proofs.Zips.{every_of_all}
 use Rattle.pre_history.proofs.Known.{sent_lldp}
 use Rattle.pre_history.proofs.Aliases.{IsLastBy, last_is, last_decided}
 use Rattle.pre_history.proofs.ArrivalsRead.{results_read}

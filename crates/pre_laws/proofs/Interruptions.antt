@@ -13,9 +13,10 @@ use Rattle.pre_history.proofs.Lists.{there, within, one_at}
 use Rattle.pre_history.proofs.LaterEnds.{packet_back}
 use Rattle.pre_laws.specs.Routed.{IsRouted}
 use Rattle.pre_laws.specs.Parts.{IsLeft}
-use Rattle.pre_laws.proofs.Runs.{run_to, filter_front, is_begun_start, is_begun_fragment, is_lt, no_lt}
+use Rattle.pre_laws.proofs.Runs.{run_to, filter_front, is_begun_start, is_begun_fragment, no_lt}
 use Rattle.pre_laws.proofs.RunSteps.{Run, State, Continues, rest_continues, state}
 use Rattle.pre_history.proofs.Rising.{rises}
+use Rattle.pre_history.proofs.NatTests.{is_lt}
 
 module _ (w : Scenario) (n : ℕ) (h : History) (legal : LegalUpTo w n h) (a : ℕ) (a_lt : a < length w.net.arcs) (t : ℕ) where
   -- those begun before the tick stand before place m, of the first l

@@ -15,3 +15,4 @@ pub mod ComeOn
 pub mod Interruptions
 pub mod Writable
 pub mod SparedFlows
+pub mod NoAlias

@@ -22,15 +22,15 @@ use Rattle.pre_laws.proofs.RunSteps.{Run, Joins, fragment_at, finished, check_fu
 use Rattle.pre_laws.proofs.FirstOctets.{same_frame, whole_from}
 
 module _ (w : Scenario) (h : History) where
-  joined_plain : (ps : List Packet) → pieces.joined (map (plain_of w h) ps) ≡ joined_data w h ps
+  pub joined_plain : (ps : List Packet) → pieces.joined (map (plain_of w h) ps) ≡ joined_data w h ps
   joined_plain [] = refl
   joined_plain (p ∷ ps) = ap (λ l. fragment_data w h p ++ l) (joined_plain ps)
 
-  continued_plain : (c n : ℕ) (ps : List Packet) → AllContinued c n ps → pieces.IsContinued c n (map (plain_of w h) ps)
+  pub continued_plain : (c n : ℕ) (ps : List Packet) → AllContinued c n ps → pieces.IsContinued c n (map (plain_of w h) ps)
   continued_plain c n [] all = tt
   continued_plain c n (p ∷ ps) (here, more) = (here, continued_plain c (n + 1) ps more)
 
-  checked_plain : (acc : List ℕ) (ps : List Packet) (p : Packet) → AllChecked w h acc ps → pieces.IsChecked acc (map (plain_of w h) (ps ++ p ∷ []))
+  pub checked_plain : (acc : List ℕ) (ps : List Packet) (p : Packet) → AllChecked w h acc ps → pieces.IsChecked acc (map (plain_of w h) (ps ++ p ∷ []))
   checked_plain acc [] p all = tt
   checked_plain acc (q ∷ []) p (here, more) = (here, tt)
   checked_plain acc (q ∷ r ∷ ps) p (here, more) = (here, checked_plain (acc ++ fragment_data w h q) (r ∷ ps) p more)

@@ -103,7 +103,7 @@ module _ (w : Scenario) (routed : IsRouted w) (n : ℕ) (h : History) (legal : L
 
   -- ---- sizes
 
-  from_start : (m : ℕ) (d : Begin) → slice_get (Begins h a) m ≡ Some d → is_fragment d.kind ≡ false → d.from ≡ 0
+  pub from_start : (m : ℕ) (d : Begin) → slice_get (Begins h a) m ≡ Some d → is_fragment d.kind ≡ false → d.from ≡ 0
   from_start m d at off = let it = by_item w n h legal a a_lt m d at in go it.0 it.1
     where
       go : (it : Item) → There w h a d.tick it (choice_of d) → d.from ≡ 0
@@ -114,7 +114,7 @@ module _ (w : Scenario) (routed : IsRouted w) (n : ℕ) (h : History) (legal : L
       go Item.lldp (on, wanted, by) = ap (λ (c : Choice). c.from) by
       go Item.rest (left, interrupted, by) = absurd (cc (sym off ∙ ap (λ (c : Choice). is_fragment c.kind) by))
 
-  whole_size : (k : Kind) (d : Begin) (size : ℕ) → is_fragment k ≡ false → SizeOf w h k d size → size ≡ length (WholeOf w h d)
+  pub whole_size : (k : Kind) (d : Begin) (size : ℕ) → is_fragment k ≡ false → SizeOf w h k d size → size ≡ length (WholeOf w h d)
   whole_size kind.Express d size off is = is
   whole_size kind.Verify d size off is = is
   whole_size kind.Respond d size off is = is
@@ -122,7 +122,7 @@ module _ (w : Scenario) (routed : IsRouted w) (n : ℕ) (h : History) (legal : L
   whole_size (kind.Continue c i) d size off is = absurd (cc off)
 
   module _ (m : ℕ) (d : Begin) (e : Ended) (at : slice_get (Begins h a) m ≡ Some d) (over : slice_get (Ends h a) m ≡ Some e) where
-    size_fits : (d.from + e.size ≤ length (WholeOf w h d)) × (64 ≤ e.size)
+    pub size_fits : (d.from + e.size ≤ length (WholeOf w h d)) × (64 ≤ e.size)
     size_fits = go (is_fragment d.kind) refl
       where
         sized : SizeOf w h d.kind d e.size
@@ -153,7 +153,7 @@ module _ (w : Scenario) (routed : IsRouted w) (n : ℕ) (h : History) (legal : L
         go false = length-Mcrc (take (d.from + e.size - 4) (WholeOf w h d))
 
     -- what is spelled where it arrives
-    abbrev told : PlainPacket
+    abbrev pub told : PlainPacket
     told = record { kind = d.kind; mdata = take (e.size - 4) (drop d.from (WholeOf w h d)); check = e.check }
 
     pub spelled : IsKept w d → Spelled (Air w h a) m ≡ Some told
@@ -205,7 +205,7 @@ module _ (w : Scenario) (routed : IsRouted w) (n : ℕ) (h : History) (legal : L
     more_one on = split_last A s m le ∙ ap (λ l. fragments_of (take (m - s) (drop s A)) ++ l) (first_fragment A m 0 p at on ∙ ap (λ l. p ∷ l) (nothing_taken (drop (suc m) A)))
 
   module _ (i : ℕ) (e : Ended) (over : slice_get (Ends h a) i ≡ Some e) (s : ℕ) (f : FrameNo)
-      (own : (k : ℕ) (c : Begin) → slice_get (Begins h a) k ≡ Some c → c.what ≡ what.Frame f → IsKept w c) (whole : AreUndamaged w h a s i) where
+      (own : (k : ℕ) (c : Begin) → slice_get (Begins h a) k ≡ Some c → is_fragment c.kind ≡ true → c.what ≡ what.Frame f → IsKept w c) (whole : AreUndamaged w h a s i) where
     ended_at : (k : ℕ) → k ≤ i → (e : Ended) × (slice_get (Ends h a) k ≡ Some e)
     ended_at k le = there (Ends h a) k (let lt = within (Ends h a) i e over in omega (arith, lt, le))
 
@@ -241,7 +241,7 @@ module _ (w : Scenario) (routed : IsRouted w) (n : ℕ) (h : History) (legal : L
 
         with_it : s ≤ m → fragments_of (take (suc m - s) (drop s (Air w h a))) ≡ fragments_of (take (m - s) (drop s (Air w h a))) ++ plain_of w h (packet h a d) ∷ []
         with_it le =
-            more_one (Air w h a) s m (told m d x.0 at x.1) le (spelled m d x.0 at x.1 (own m d at carries)) on
+            more_one (Air w h a) s m (told m d x.0 at x.1) le (spelled m d x.0 at x.1 (own m d at on carries)) on
             ∙ ap (λ p. fragments_of (take (m - s) (drop s (Air w h a))) ++ p ∷ []) (sym (plain_is m d x.0 at x.1 f carries))
 
         go : Joins w routed n h legal a a_lt m d → ((k : ℕ) (b : Begin) → k < fuel → k ≤ i → slice_get (Begins h a) k ≡ Some b → is_fragment b.kind ≡ true → b.what ≡ what.Frame f → So (suc k)) → So (suc m)
@@ -287,5 +287,5 @@ module _ (w : Scenario) (routed : IsRouted w) (n : ℕ) (h : History) (legal : L
         let check = length-Fcs user in
         let len = ap length is in
         subst (λ l. Gives (Air w h a) i (Given.frame l)) (sym is)
-        ((frame_alone (Air w h a) s i (arc w a).add_frag user le (told s c x.0 at_c x.1, spelled s c x.0 at_c x.1 (own s c at_c carries_c), is_start_c) (told i b e at over, spelled i b e at over (own i b at carries), on)
+        ((frame_alone (Air w h a) s i (arc w a).add_frag user le (told s c x.0 at_c x.1, spelled s c x.0 at_c x.1 (own s c at_c is_start_c carries_c), is_start_c) (told i b e at over, spelled i b e at over (own i b at on carries), on)
         carried (omega (arith, long, sum, check, len)) (Given.frame (user ++ Fcs user))).1 refl)

@@ -29,6 +29,7 @@ use Rattle.pre_history.proofs.Relays.{ComesBy, comings_by}
 use Rattle.pre_history.proofs.Steady.{Steady}
 use Rattle.pre_history.proofs.InOrder.{steady}
 use Rattle.pre_laws.specs.Routed.{IsRouted, IsOnRoute}
+use Rattle.pre_history.proofs.NatTests.{is_eq, is_lt}
 
 -- octets of a frame are carried on its route, and fragments carry them
 pub record BeginsRight (w : Scenario) (a t : ℕ) (k : Kind) (x : What) : Type 0 where
@@ -128,12 +129,6 @@ all_and true true true p q r is = cc is
 all_and true true false p q r is = cc r
 all_and true false z p q r is = cc q
 all_and false y z p q r is = cc p
-
-is_lt : (m n : ℕ) → m < n → nat_lt m n ≡ true
-is_lt m n lt = grind (arith, nat_tests)
-
-is_eq : (m n : ℕ) → m ≡ n → (m == n) ≡ true
-is_eq m n e = grind (arith, nat_tests)
 
 pub record AtFront (h : History) (a p t f : ℕ) : Type 0 where
   pub place : ℕ

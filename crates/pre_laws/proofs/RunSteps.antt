@@ -27,10 +27,10 @@ use Rattle.pre_history.proofs.Placing.{begins_arc}
 use Rattle.pre_history.proofs.Undamaged.{length-FrameOf}
 use Rattle.pre_history.proofs.InOrder.{steady}
 use Rattle.pre_laws.specs.Routed.{IsRouted}
-use Rattle.pre_history.proofs.Zips.{every_of_all}
 use Rattle.pre_laws.proofs.Begun.{choice_of, by_item}
 use Rattle.pre_laws.proofs.Routed.{BegunRight, begins_right, all_right}
-use Rattle.pre_laws.proofs.Runs.{IsRun, passes, run_to, run_is, run_other, run_new, run_more, end_is, check_of, checked_push, continued_push, every_push, fragment_size, is_begun_start, is_begun_fragment, no_eq, is_eq}
+use Rattle.pre_laws.proofs.Runs.{IsRun, passes, run_to, run_is, run_other, run_new, run_more, end_is, check_of, checked_push, continued_push, every_push, fragment_size, is_begun_start, is_begun_fragment, no_eq}
+use Rattle.pre_history.proofs.NatTests.{is_eq}
 
 take_none : (l : List ℕ) → take 0 l ≡ []
 take_none [] = refl
@@ -83,7 +83,7 @@ module _ (w : Scenario) (routed : IsRouted w) (n : ℕ) (h : History) (legal : L
     unsent_is : (begun w h b).unsent ≡ length F - b.from
     unsent_is = ap (λ x. length (FrameOf w (frame_number x)) - b.from) r.carries
 
-    whole_is : WholeOf w h b ≡ F
+    pub whole_is : WholeOf w h b ≡ F
     whole_is = ap (whole_of w h b) r.carries
 
     add_is : (begun w h b).add_frag ≡ (arc w a).add_frag
@@ -103,7 +103,7 @@ module _ (w : Scenario) (routed : IsRouted w) (n : ℕ) (h : History) (legal : L
     pub last_check_at : last_check w h (r.before ++ p ∷ []) ≡ e.check
     last_check_at = ap (λ o. unwrap_or (option_map (λ (e : Ended). e.check) (option_and_then (λ (p : Packet). p.ended) o)) []) (last_push r.before p) ∙ check_at
 
-    checked_as : e.check ≡ CheckOf w h b e.size
+    pub checked_as : e.check ≡ CheckOf w h b e.size
     checked_as = (steady w n h a a_lt legal).checks k b e r.begun over
 
     -- where its size is all that is unsent the frame is whole

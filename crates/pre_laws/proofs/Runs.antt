@@ -23,6 +23,7 @@ use Rattle.pre_history.proofs.Free.{packet_at, first_numbered}
 use Rattle.pre_history.proofs.LaterEnds.{packet_back}
 use Rattle.pre_history.proofs.InOrder.{steady}
 use Rattle.pre_history.proofs.Rising.{rises}
+use Rattle.pre_history.proofs.NatTests.{is_lt}
 
 -- ---- lists
 
@@ -114,12 +115,6 @@ fragment_size w h kind.Respond b size is sized = absurd (cc is)
 
 pub no_eq : (m n : ℕ) → m < n → (m == n) ≡ false
 no_eq m n lt = grind (arith, nat_tests)
-
-pub is_eq : (m n : ℕ) → m ≡ n → (m == n) ≡ true
-is_eq m n e = grind (arith, nat_tests)
-
-pub is_lt : (m n : ℕ) → m < n → nat_lt m n ≡ true
-is_lt m n lt = grind (arith, nat_tests)
 
 pub no_lt : (m n : ℕ) → n ≤ m → nat_lt m n ≡ false
 no_lt m n le = grind (arith, nat_tests)

@@ -1,5 +1,5 @@
 -- A spared frame is received where its last mPacket arrives, if none that began on the arc since its first one is damaged.
-use Rattle.std.proofs.Common.{ℕ, ◌≡◌, ◌+◌, ◌<◌, Bool, true, false, length, refl, inl, inr, Some}
+use Rattle.std.proofs.Common.{ℕ, ◌≡◌, ◌+◌, ◌<◌, Bool, true, false, length, refl, Some}
 use Rattle.std.specs.Prelude.{slice_get}
 use Rattle.pre_base.specs.declared.numbers.FrameNo.{FrameNo}
 use Rattle.pre_mpacket.specs.Arrivals.{Given, Gives, is_fragment}
@@ -23,4 +23,4 @@ spared_gives w routed n h legal a a_lt f spared s i c b e at_c carries_c from_c 
   where
     go : (x : Bool) → is_fragment b.kind ≡ x → Gives (Air w h a) i (Given.frame (FrameOf w f.0))
     go false off = gives w routed n h legal a a_lt i b e f at over (whole_from w routed n h legal a a_lt i b f (at, carries) off).1 carries spared
-    go true on = reassembled w routed n h legal a a_lt i e over s f (own_kept w h a f spared) whole b at on carries full c at_c carries_c from_c
+    go true on = reassembled w routed n h legal a a_lt i e over s f (λ k d at_d on_d carries_d. own_kept w h a f spared k d at_d carries_d) whole b at on carries full c at_c carries_c from_c

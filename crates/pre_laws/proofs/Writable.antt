@@ -1,8 +1,7 @@
 -- What a legal history tells can be written over its network.
-use Rattle.std.proofs.Common.{ℕ, zero, suc, ◌≡◌, ◌⊎◌, ◌==◌, ◌+◌, ◌-◌, ◌*◌, ◌^◌, ◌%◌, ◌<◌, ◌≤◌, Bool, true, false, List, [], ◌∷◌, ◌++◌, length, refl, sym, ◌∙◌, ap, inl, inr, arith, subst, append_assoc, length-append, Option, Some, None, drop, take, replicate, min, map, filter}
-use Rattle.std.specs.Prelude.{if◌then◌else◌, slice_get, slice_index_or, All, Any, nat_lt, IsTrue}
+use Rattle.std.proofs.Common.{ℕ, suc, ◌≡◌, ◌⊎◌, ◌==◌, ◌+◌, ◌-◌, ◌*◌, ◌^◌, ◌%◌, ◌<◌, ◌≤◌, Bool, true, false, List, [], ◌∷◌, ◌++◌, length, refl, sym, ◌∙◌, ap, inl, inr, arith, subst, length-append, Option, Some, None, drop, take, replicate, min, filter}
+use Rattle.std.specs.Prelude.{if◌then◌else◌, slice_get, All, nat_lt, IsTrue}
 use Rattle.std.specs.List.{list_any, AllByRecursion as Every}
-use Rattle.std.proofs.lemmas.Bool.Decides.{nat_tests}
 use Rattle.std.proofs.Math.Nat.{min-le_left}
 use Rattle.std.proofs.Math.Seq.{drop-append_seam}
 use Rattle.pre_base.specs.declared.numbers.FrameNo.{FrameNo}
@@ -21,7 +20,6 @@ use Rattle.pre_text.specs.Reading.{AreOctets}
 use Rattle.pre_topo.specs.declared.network.Network.{Network}
 use Rattle.pre_topo.specs.declared.arcs.Arc.{Arc}
 use Rattle.pre_topo.specs.Arcs.{IsArc}
-use Rattle.pre_streams.specs.declared.rows.Row.{Row}
 use Rattle.pre_streams.specs.Fits as streams
 use Rattle.pre_script.specs.Fits as script
 use Rattle.pre_script.specs.Rules.{horizon, negotiates}
@@ -34,23 +32,21 @@ use Rattle.pre_history.specs.Scenario.{Scenario, arc, no_arc, row, no_row, send,
 use Rattle.pre_history.specs.Moments.{Phase, Moment, moments, moment_at}
 use Rattle.pre_history.specs.History.{Begin, Ended, Arrive, Entry, Delivery, PlainEvent, History}
 use Rattle.pre_history.specs.Selected.{begin_on, ended_on, arrive_on, delivery_of, frame_count, frame_number}
-use Rattle.pre_history.specs.Queries.{Begins, Ends, Arrivals, Deliveries, Packet, Rest, Interrupted, LastRun, rest_of, packet, PacketsBefore, Packets}
-use Rattle.pre_history.specs.Octets.{WholeOf, whole_of, BareOctets, AdvertAt}
-use Rattle.pre_history.specs.Starts.{Item, Choice, There, SizeOf, begun, whole_frame, ExpressWaits, starts_before}
-use Rattle.pre_history.specs.Comings.{Coming, Comings, entry_for}
+use Rattle.pre_history.specs.Queries.{Begins, Ends, Arrivals, Deliveries, Packet, Rest, Interrupted, PacketsBefore, Packets}
+use Rattle.pre_history.specs.Octets.{WholeOf, whole_of, AdvertAt}
+use Rattle.pre_history.specs.Starts.{Item, Choice, There, SizeOf, begun, ExpressWaits, starts_before}
 use Rattle.pre_history.specs.Rules.{CheckOf, SetsAt, last_four, HappensIn, Happens}
-use Rattle.pre_history.specs.Placed.{number, IsAt, IsBefore, AllAt}
+use Rattle.pre_history.specs.Placed.{number, IsAt, IsBefore}
 use Rattle.pre_history.specs.Legal.{LegalUpTo, LegalBefore, last_moment}
 use Rattle.pre_history.specs.Names.{HasArc, HasNode}
 use Rattle.pre_history.specs.Plain.{IsKind}
 use Rattle.pre_history.specs.Written.{IsNumber, IsWhat, HasOctets, IsWritten, AreWritten}
-use Rattle.pre_history.specs.Read.{IsTold, IsFromArrival}
-use Rattle.pre_history.proofs.Lists.{there, within, every_at, every_placed, any_at, found_at, one_at, in_selected}
+use Rattle.pre_history.specs.Read.{IsTold}
+use Rattle.pre_history.proofs.Lists.{there, within, every_at, every_placed, any_at, found_at, in_selected}
 use Rattle.pre_history.proofs.Zips.{every_of_all}
 use Rattle.pre_history.proofs.Chosen.{from_filter, from_map}
 use Rattle.pre_history.proofs.Moments.{moment_in, sets_place}
 use Rattle.pre_history.proofs.Placing.{placed, moment_events, begins_arc}
-use Rattle.pre_history.proofs.EndTurns.{is_eq}
 use Rattle.pre_history.proofs.Undamaged.{user_of, length-FrameOf}
 use Rattle.pre_history.proofs.InOrder.{steady}
 use Rattle.pre_history.proofs.LaterEnds.{packet_back}
@@ -61,14 +57,14 @@ use Rattle.pre_history.proofs.Rising.{place_le_tick}
 use Rattle.pre_history.proofs.Totals.{tick_up_to}
 use Rattle.pre_history.specs.Cuts.{IsCutAt}
 use Rattle.pre_laws.specs.Routed.{IsRouted, IsOnRoute}
-use Rattle.pre_laws.specs.Parts.{GoesOn}
-use Rattle.pre_laws.proofs.Fitting.{is_routed, row_is, sent}
+use Rattle.pre_laws.proofs.Fitting.{is_routed, sent}
 use Rattle.pre_laws.proofs.Routed.{IsRight, BegunRight, begins_right, all_right, from_last_first}
 use Rattle.pre_laws.proofs.Begun.{choice_of, by_item}
 use Rattle.pre_laws.proofs.Parts.{continuation}
 use Rattle.pre_laws.proofs.Delivered.{delivers_once}
 use Rattle.std.specs.Option.{option_map_or}
 use Rattle.pre_frame.specs.Layout.{address_of}
+use Rattle.pre_history.proofs.NatTests.{is_eq}
 
 -- ---- numbers and octets
 

@@ -1,10 +1,11 @@
 -- How frames go over an arc: in one express mPacket, or in fragments.
-use Rattle.std.specs.Prelude.{ℕ, suc, ◌+◌, ◌-◌, ◌<◌, ◌≤◌, ◌≡◌, false, true, List, [], length, take, map, filter, unwrap_or, option_map, Some, slice_get}
+use Rattle.std.specs.Prelude.{ℕ, suc, ◌+◌, ◌-◌, ◌<◌, ◌≤◌, ◌≡◌, false, true, List, [], length, take, map, filter, unwrap_or, option_map, Some, slice_get, All}
 use Rattle.std.specs.List.{AllByRecursion as Every}
 use Rattle.pre_base.specs.declared.numbers.FrameNo.{FrameNo}
 use Rattle.pre_mpacket.specs.Arrivals.{is_start, is_fragment}
 use Rattle.pre_mpacket.specs.Spelling.{PlainPacket}
 use Rattle.pre_mpacket.specs.Pieces.{Carries, least_fragment}
+use Rattle.pre_topo.specs.declared.arcs.Mode.TheVariants as mode
 use Rattle.pre_history.specs.declared.events.What.TheVariants as what
 use Rattle.pre_history.specs.Scenario.{Scenario, arc, FrameOf}
 use Rattle.pre_history.specs.History.{Begin, Ended, History}
@@ -71,3 +72,12 @@ pub record IsLeft (w : Scenario) (h : History) (a t : ℕ) (left : Rest) : Type 
   pub from : left.from ≡ last.from + (ended.size - 4)
   pub least : least_fragment (arc w a).add_frag ≤ ended.size - 4
   pub more : left.from + 64 ≤ length (FrameOf w left.frame)
+
+-- No fragment that began is lost.
+abbrev pub LosesNoFragment : Scenario → History → Type 0
+LosesNoFragment w h = (a i : ℕ) (b : Begin) → slice_get (Begins h a) i ≡ Some b → is_fragment b.kind ≡ true → is_lost w b ≡ false
+
+-- No line of the script damages an mPacket, and those that it loses are on arcs that never preempt.
+pub record KeepsFragments (w : Scenario) : Type 0 where
+  pub undamaged : w.script.damages ≡ []
+  pub losses : All (λ l. (arc w l.arc.0).mode ≡ mode.Off) w.script.losses

@@ -1,15 +1,15 @@
-ghost use Rattle.std.specs.Prelude.{◌<◌, ◌≤◌, ◌+◌, ◌≡◌, ◌≢◌, ◌⊎◌, ℕ, true, length, slice_get, Some, AllPairs, All};
+ghost use Rattle.std.specs.Prelude.{◌<◌, ◌≤◌, ◌+◌, ◌≡◌, ◌≢◌, ◌⊎◌, ℕ, true, length, slice_get, Some, AllPairs, All, []};
 ghost use Rattle.pre_laws.specs.Routed.{ArrivesWhole, ComesFirst, ComesNext, HasCome, IsEntry, IsRouted, IsOnRoute};
 ghost use Rattle.pre_base.specs.declared.numbers.FrameNo.{FrameNo};
 ghost use Rattle.pre_history.specs.History.{Arrive, Begin, Ended, Entry, History};
 ghost use Rattle.pre_history.specs.Queries.{Arrivals, Begins, Ends, Entries, Interrupted, Rest};
 ghost use Rattle.pre_mpacket.specs.Arrivals.{Given, Gives, is_continue, is_start};
-ghost use Rattle.pre_laws.specs.Parts.{GoesOn, IsLeft, WentInParts, AreUndamaged};
+ghost use Rattle.pre_laws.specs.Parts.{GoesOn, IsLeft, WentInParts, AreUndamaged, KeepsFragments, LosesNoFragment};
 ghost use Rattle.pre_history.specs.Deliveries.{ComeOnce, DeliversOnce};
 ghost use Rattle.pre_history.specs.Comings.{Comings, first_arc, frame_at, next_arc};
 ghost use Rattle.pre_history.specs.Placed.{moment_of};
 ghost use Rattle.pre_history.specs.Octets.{Air};
-ghost use Rattle.pre_history.specs.Legal.{Spared, Legal, LegalBefore, LegalUpTo, last_moment};
+ghost use Rattle.pre_history.specs.Legal.{Spared, Legal, LegalBefore, LegalUpTo, last_moment, Alias};
 ghost use Rattle.pre_history.specs.Scenario.{FrameOf, Scenario, arc, latency, row, send};
 ghost use Rattle.pre_history.specs.Moments.{Phase};
 ghost use Rattle.pre_history.specs.Written.{AreWritten};
@@ -109,4 +109,15 @@ pub fn frames_come_on()
 pub fn legal_histories_are_written()
     ensures { (w : Scenario) → streams.Fits w.net w.streams → script.Fits w.net w.streams w.script → All (λ r. r.prio < 8) w.streams.rows
         → (n : ℕ) (h : History) → n ≤ last_moment w → LegalBefore w h n → AreWritten w.net h }
+{}
+
+/// Where no line of the script damages an mPacket, and no fragment that began was lost, no mPacket arrives as an alias. So a script
+/// that damages nothing, and loses mPackets only on arcs that never preempt, has a legal history, whatever is cut, verified and
+/// advertised.
+pub fn undamaged_scripts_have_histories()
+    ensures no_alias { (w : Scenario) → IsRouted w → w.script.damages ≡ [] → (n : ℕ) (h : History) → LegalUpTo w n h → LosesNoFragment w h
+        → (a : ℕ) → a < length w.net.arcs → (i : ℕ) → i < length (Ends h a) → ¬ Alias w h a i }
+    ensures before { (w : Scenario) → IsRouted w → w.script.damages ≡ [] → (n : ℕ) (h : History) → LegalUpTo w n h → LosesNoFragment w h → LegalBefore w h n }
+    ensures kept { (w : Scenario) → IsRouted w → KeepsFragments w → (n : ℕ) (h : History) → LegalUpTo w n h → LosesNoFragment w h }
+    ensures some { (w : Scenario) → IsRouted w → KeepsFragments w → (h : History) × Legal w h }
 {}

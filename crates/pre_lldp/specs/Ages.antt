@@ -1,6 +1,7 @@
 -- How long an advert counts.
-use Rattle.std.specs.Prelude.{◌≡◌, ℕ, ◌+◌, ◌*◌, ◌<◌, ◌==◌, true, if◌then◌else◌, List, [], ◌∷◌, Option, Some, None}
+use Rattle.std.specs.Prelude.{◌≡◌, ℕ, ◌+◌, ◌*◌, ◌<◌, ◌==◌, true, if◌then◌else◌, List, Option, Some, None}
 use Rattle.pre_lldp.specs.declared.adverts.Advert.{Advert}
+use Rattle.pre_base.specs.Last.{last}
 
 -- an advert that arrived at a tick
 pub record Heard : Type 0 where
@@ -9,9 +10,7 @@ pub record Heard : Type 0 where
 
 -- the last of them
 abbrev pub last_heard : List Heard → Option Heard
-last_heard [] = None
-last_heard (first ∷ []) = Some first
-last_heard (first ∷ second ∷ more) = last_heard (second ∷ more)
+last_heard calls = last calls
 
 -- the first tick at which the advert doesn't count any more
 abbrev pub runs_out : ℕ → Heard → ℕ

@@ -1,8 +1,9 @@
 -- The state of a link that negotiates preemption (IEEE 802.3 clause 99.4.3), as conditions on ticks: those at which Good
 -- holds, those at which verifies began and ended, and those at which responds came.
-use Rattle.std.specs.Prelude.{◌≡◌, ℕ, zero, suc, ◌+◌, ◌<◌, ◌≤◌, ◌&&◌, nat_le, nat_lt, not, Bool, true, false, if◌then◌else◌, List, [], ◌∷◌, length, filter, Any, Option, Some, None, unwrap_or, MatchOption, ⊤}
+use Rattle.std.specs.Prelude.{◌≡◌, ℕ, zero, suc, ◌+◌, ◌<◌, ◌≤◌, ◌&&◌, nat_le, nat_lt, not, Bool, true, false, if◌then◌else◌, List, length, filter, Any, Option, Some, None, unwrap_or, MatchOption, ⊤}
 use Rattle.std.specs.List.{list_any}
 use Rattle.std.specs.Option.{option_map_or}
+use Rattle.pre_base.specs.Last.{last}
 
 -- a verify: when it began, and when it ended if it has
 pub record Verify : Type 0 where
@@ -27,9 +28,7 @@ abbrev pub verifies_since : ℕ → List Verify → List Verify
 verifies_since u verifies = filter (λ verify. nat_le u verify.began) verifies
 
 abbrev pub last_verify : List Verify → Option Verify
-last_verify [] = None
-last_verify (first ∷ []) = Some first
-last_verify (first ∷ second ∷ more) = last_verify (second ∷ more)
+last_verify verifies = last verifies
 
 -- There was no verify, or the last one has ended and the verify time after it is over.
 abbrev pub IsOver : ℕ → ℕ → Option Verify → Type 0

@@ -1,6 +1,6 @@
 -- A list of arrivals has counters.
-use Rattle.std.proofs.Common.{ℕ, zero, suc, ◌≡◌, ◌<◌, Bool, true, false, List, [], length, refl, sym, ◌∙◌, inl, inr, subst, Option, Some, None}
-use Rattle.std.specs.Prelude.{slice_get, count_by, IsFalse, ◌++◌}
+use Rattle.std.proofs.Common.{ℕ, zero, suc, ◌≡◌, ◌<◌, Bool, true, false, List, refl, sym, ◌∙◌, inl, inr, subst, Option, Some, None}
+use Rattle.std.specs.Prelude.{slice_get, IsFalse}
 use Rattle.pre_mpacket.specs.Spelling.{PlainPacket}
 use Rattle.pre_mpacket.specs.Arrivals.{Given, is_start, is_continue, is_fragment, HasCome, Spelled, Gives, IsOpenBefore}
 use Rattle.pre_mpacket.specs.Counters.{HoldsOf, any_kind, IsAccepted, IsAssError, IsSmdError, IsAssOk, IsFragRx, CountersOf}

@@ -5,13 +5,14 @@ use Rattle.pre_base.specs.declared.numbers.NodeId.{NodeId}
 use Rattle.pre_script.specs.declared.scripts.SendLine.{SendLine}
 use Rattle.pre_frame.specs.Layout.{frame_of}
 use Rattle.pre_streams.specs.declared.rows.Row.{Row}
-use Rattle.pre_history.specs.Scenario.{Scenario, last, row, send, no_send, source, destination, number_of_node, FrameOf}
+use Rattle.pre_history.specs.Scenario.{Scenario, row, send, no_send, source, destination, number_of_node, FrameOf}
 use Rattle.std.proofs.lemmas.Option.{slice_get-get_or}
 use Rattle.std.proofs.lemmas.List.{take_at}
 use Rattle.pre_history.proofs.Undamaged.{length-FrameOf}
 use Rattle.pre_sim.specs.Keeps.{Store, IsFrameOf}
 use Rattle.pre_sim.specs.Arriving.{IsStored}
 use Rattle.pre_sim.proofs.Lists.{set_here}
+use Rattle.pre_base.specs.Last.{last}
 
 -- the last element is the one at the last place
 pub last_at : {X : Type 0} (xs : List X) (x : X) → slice_get xs (length xs - 1) ≡ Some x → last xs ≡ Some x
