@@ -8,7 +8,7 @@ use Rattle.pre_topo.specs.Arcs.{latency_at}
 use Rattle.pre_streams.specs.declared.rows.Row.{Row}
 use Rattle.pre_history.specs.declared.events.Outcome.TheVariants as outcome
 use Rattle.pre_history.specs.declared.events.What.TheVariants as what
-use Rattle.pre_history.specs.Scenario.{Scenario, FrameOf, IsExpressFrame, arc, row, send, latency}
+use Rattle.pre_history.specs.Scenario.{Scenario, FrameOf, arc, row, send, latency}
 use Rattle.pre_history.specs.Moments.{moments}
 use Rattle.pre_history.specs.History.{History, Begin, Ended, Arrive, Delivery}
 use Rattle.pre_history.specs.Selected.{RingEntry, frame_in}
@@ -18,7 +18,7 @@ use Rattle.pre_history.specs.Starts.{SizeOf}
 use Rattle.pre_history.specs.Comings.{after, first_arc, frame_at, hops, next_arc}
 use Rattle.pre_history.specs.Placed.{number}
 use Rattle.pre_history.specs.Legal.{LegalUpTo, Spared}
-use Rattle.pre_history.proofs.Lists.{there, within}
+use Rattle.pre_history.proofs.Lists.{any_at, there, within}
 use Rattle.pre_history.proofs.InOrder.{steady}
 use Rattle.pre_history.proofs.ArrivalsRead.{deliveries_read}
 use Rattle.pre_laws.proofs.ComeOn.{sent_comes, relayed_comes}
@@ -27,18 +27,23 @@ use Rattle.pre_bound.specs.Uses.{TakesAt, is_stream}
 use Rattle.pre_bound.specs.Values.{Values}
 use Rattle.pre_bound.specs.Good.{AreGood}
 use Rattle.pre_bound.proofs.Hops.{TakesAt-from}
-use Rattle.pre_delay.specs.Arcs.{Some_of}
+use Rattle.pre_delay.proofs.Arcs.{Some_of}
 use Rattle.pre_delay.specs.Ports.{stream_of, wire}
 use Rattle.pre_delay.specs.Runs.{IsRun}
-use Rattle.pre_delay.specs.Whole.{IsDeliveryOf}
+use Rattle.pre_delay.specs.Timely.{SparedArrive}
 use Rattle.pre_delay.proofs.Certified.{is_yes}
 use Rattle.pre_delay.proofs.Begun.{has_ended}
 use Rattle.pre_delay.proofs.Sent.{FromFront, express_begins}
 use Rattle.pre_delay.proofs.Known.{read_any, routed, routes, hop_within}
 use Rattle.pre_delay.proofs.Bursts.{behind_it, taken_at}
-use Rattle.pre_delay.proofs.Whole.{rules, row_high, all_on_time}
+use Rattle.pre_delay.proofs.OnePort.{rules, row_high, port_of, timely}
+use Rattle.pre_delay.proofs.Network.{all_obey, port_obeys}
 use Rattle.pre_delay.proofs.Delivered.{ticks_to, hop_more, hops_within, joined, entry_by, delay_least, end_ticks}
 use Rattle.pre_delay.proofs.Reached.{entry_in_ring, told_delivery}
+
+-- the delivery has the frame's number and its octets
+abbrev IsDeliveryOf : Scenario → ℕ → Delivery → Type 0
+IsDeliveryOf w f d = (d.frame ≡ f) × (d.octets ≡ FrameOf w f)
 
 -- ---- routes
 
@@ -65,14 +70,14 @@ place_of P (x ∷ xs) (inl here) = (0, x, refl, here)
 place_of P (x ∷ xs) (inr more) = let o = place_of P xs more in (suc o.0, o.1, o.2, o.3)
 
 -- a moment of an earlier tick
-early : (arcs t done k n : ℕ) → t < done → k < moments arcs → number arcs done 0 ≤ n → number arcs t k < n
-early arcs t done k n lt below over =
+early : (arcs t done j k n : ℕ) → t < done → j < moments arcs → n ≡ number arcs done k → number arcs t j < n
+early arcs t done j k n lt below over =
     let product : (t + 1) * moments arcs ≤ done * moments arcs = mul-le-mul_right (moments arcs) (omega (arith, lt)) in
     let spread : (t + 1) * moments arcs ≡ t * moments arcs + moments arcs = omega arith in
     omega (arith, product, spread, below, over)
 
 module _ (w : Scenario) (v : Values) (run : IsRun w) (good : AreGood w.net w.streams.rows v) (n : ℕ) (h : History) (done : ℕ) (legal : LegalUpTo w n h)
-    (over : number (length w.net.arcs) done 0 ≤ n) (unstarted : n ≤ number (length w.net.arcs) done (2 + 3 * length w.net.arcs))
+    (k : ℕ) (k_lt : k < moments (length w.net.arcs)) (n_is : n ≡ number (length w.net.arcs) done k)
     (i : ℕ) (r : Row) (at : slice_get w.streams.rows i ≡ Some r) (stream : is_stream r ≡ true) (f : ℕ) (is : row w f ≡ r) (known : f < length w.script.sends) (spared : Spared w h f)
     (time : (send w f).send.tick.0 + v.bound i < done) where
   high : (j a : ℕ) → TakesAt r j a → (arc w a).express_from ≤ r.prio
@@ -101,14 +106,14 @@ module _ (w : Scenario) (v : Values) (run : IsRun w) (good : AreGood w.net w.str
     within_bound = hops_within w v run good i r at stream (suc j)
 
     -- it begins in time
-    begins : (k : ℕ) (x : RingEntry) → slice_get (Entries h a r.prio) k ≡ Some x → x.frame ≡ f
+    begins : (e : ℕ) (x : RingEntry) → slice_get (Entries h a r.prio) e ≡ Some x → x.frame ≡ f
         → (m : ℕ) × (b : Begin) × (slice_get (Begins h a) m ≡ Some b) × (b.what ≡ what.Frame (record { 0 = f })) × (b.tick + (arc w a).cost * (length (FrameOf w f) + 8) ≤ (send w f).send.tick.0 + ticks_to w v run good r (suc j))
-    begins k x there' same =
-        let first = entry_by w v run good n h done legal over unstarted i r at stream f is j a k x here there' same in
+    begins e x there' same =
+        let first = entry_by w v run good n h legal i r at stream f is j a e x here there' same in
         let more = hop_more w v run good r j a here lt in
         let all = within_bound in
-        let least = delay_least w v run good n h done legal over unstarted i r at stream f is j a here in
-        let o = all_on_time w v run good n h done legal over unstarted a r.prio k x (high j a here) there' (omega (arith, first, more, all, least, time)) in
+        let least = delay_least w v run good n h legal i r at stream f is j a here in
+        let o = (timely w v run good a r.prio (port_of w v run good i r at stream j a here) n h done k k_lt n_is legal (port_obeys w v run good h a r.prio (all_obey w v run good n h legal))).begun_in_time e x there' in
         let b = o.begun (omega (arith, first, more, all, least, time)) in
         let left = o.left b.0 b.1 b.2 b.3 in
         let cost : (arc w a).cost * wire w x ≡ (arc w a).cost * (length (FrameOf w f) + 20) = ap (λ g. (arc w a).cost * (length (FrameOf w g) + 20)) same in
@@ -129,7 +134,7 @@ module _ (w : Scenario) (v : Values) (run : IsRun w) (good : AreGood w.net w.str
           let size : length (FrameOf w f) ≡ length (WholeOf w h b) = ap (λ x. length (whole_of w h b x)) (sym carries) in
           let has_size : SizeOf w h b.kind b (length (FrameOf w f)) = subst (λ k. SizeOf w h k b (length (FrameOf w f))) (sym front.kind) size in
           has_ended w n h a m (length (FrameOf w f)) b lt legal begun has_size
-          (early A (b.tick + (arc w a).cost * (length (FrameOf w f) + 8)) done (1 + a) n (omega (arith, by, all, time)) (omega (arith, lt)) over)
+          (early A (b.tick + (arc w a).cost * (length (FrameOf w f) + 8)) done (1 + a) k n (omega (arith, by, all, time)) (omega (arith, lt)) n_is)
 
       -- and arrives
       arrives : (e : Ended) → slice_get (Ends h a) m ≡ Some e → (x : Arrive) × (slice_get (Arrivals h a) m ≡ Some x) × (x.ord ≡ m) × (x.tick ≤ (send w f).send.tick.0 + ticks_to w v run good r (suc j))
@@ -137,8 +142,8 @@ module _ (w : Scenario) (v : Values) (run : IsRun w) (good : AreGood w.net w.str
           let A = length w.net.arcs in
           let all = within_bound in
           let s = steady w n h a lt legal in
-          let by = end_ticks w v run good n h done legal over unstarted i r at stream f is j a m b e here begun ended carries in
-          let x = there (Arrivals h a) m (s.arrived m e ended (early A (e.tick + (arc w a).delay) done (1 + A + a) n (omega (arith, by, all, time)) (omega (arith, lt)) over)) in
+          let by = end_ticks w v run good n h legal i r at stream f is j a m b e here begun ended carries in
+          let x = there (Arrivals h a) m (s.arrived m e ended (early A (e.tick + (arc w a).delay) done (1 + A + a) k n (omega (arith, by, all, time)) (omega (arith, lt)) n_is)) in
           let travels = s.ordered.travels m e x.0 ended x.1 in
           (x.0, x.1, s.ordered.arrival_places m x.0 x.1, omega (arith, by, travels))
 
@@ -188,14 +193,14 @@ module _ (w : Scenario) (v : Values) (run : IsRun w) (good : AreGood w.net w.str
       let all = hops_within w v run good i r at stream (suc (suc j)) in
       let carried : frame_at h a o.place ≡ Some f = ap (λ o. option_and_then (λ (y : Begin). frame_in y.what) o) o.begun ∙ ap frame_in o.carries in
       let enters = relayed_comes w n h legal a o.place f b o.x lt o.arrived o.result carried follows
-      (early A (o.x.tick + latency w a) done (1 + 3 * A) n (omega (arith, o.by, meet, more, all, time)) (omega arith) over) in
+      (early A (o.x.tick + latency w a) done (1 + 3 * A) k n (omega (arith, o.by, meet, more, all, time)) (omega arith) n_is) in
       let e : (row w f).prio ≡ r.prio = ap (λ (y : Row). y.prio) is in
       on_and_on m (suc j) b (omega (arith, long)) next (subst (λ p. Some_of (λ (x : RingEntry). x.frame ≡ f) (Entries h b p)) e (entry_in_ring h enters.0 (record { tick = o.x.tick + latency w a; arc = b; prio = (row w f).prio; frame = f }) enters.1))
 
   first_entry : Some_of (λ (x : RingEntry). x.frame ≡ f) (Entries h (first_arc w f) r.prio)
   first_entry =
       let A = length w.net.arcs in
-      let enters = sent_comes w n h legal f known (early A ((send w f).send.tick.0) done (1 + 3 * A) n (omega (arith, time)) (omega arith) over) in
+      let enters = sent_comes w n h legal f known (early A ((send w f).send.tick.0) done (1 + 3 * A) k n (omega (arith, time)) (omega arith) n_is) in
       let e : (row w f).prio ≡ r.prio = ap (λ (y : Row). y.prio) is in
       subst (λ p. Some_of (λ (x : RingEntry). x.frame ≡ f) (Entries h (first_arc w f) p)) e (entry_in_ring h enters.0 (record { tick = (send w f).send.tick.0; arc = first_arc w f; prio = (row w f).prio; frame = f }) enters.1)
 
@@ -209,12 +214,10 @@ module _ (w : Scenario) (v : Values) (run : IsRun w) (good : AreGood w.net w.str
       let first : first_arc w f ≡ b = ap (λ o. unwrap_or o 0) front in
       on_and_on (length r.arcs - 1) 0 b (omega (arith, some)) here (subst (λ a. Some_of (λ (x : RingEntry). x.frame ≡ f) (Entries h a r.prio)) first first_entry)
 
--- A spared frame of an express priority is delivered.
-pub spared_are_delivered : (w : Scenario) (v : Values) (n : ℕ) (h : History) (done : ℕ) → IsRun w → AreGood w.net w.streams.rows v → LegalUpTo w n h
-    → number (length w.net.arcs) done 0 ≤ n → n ≤ number (length w.net.arcs) done (2 + 3 * length w.net.arcs)
-    → (f : ℕ) → f < length w.script.sends → IsExpressFrame w f → Spared w h f → (send w f).send.tick.0 + v.bound (stream_of w f) < done
-    → (j : ℕ) × (d : Delivery) × (slice_get (Deliveries h) j ≡ Some d) × IsDeliveryOf w f d
-spared_are_delivered w v n h done run good legal over unstarted f known stream spared time =
+-- A spared express frame is delivered, where its bound is over.
+pub spared_arrive : (w : Scenario) (v : Values) → IsRun w → AreGood w.net w.streams.rows v → (n : ℕ) (h : History) (done k : ℕ) → LegalUpTo w n h → k < moments (length w.net.arcs) → n ≡ number (length w.net.arcs) done k
+    → SparedArrive w h done v
+spared_arrive w v run good n h done k legal k_lt n_is f known stream spared time =
     let frame = run.frames f known in
-    place_of (IsDeliveryOf w f) (Deliveries h)
-    (delivered_at_last w v run good n h done legal over unstarted (stream_of w f) (row w f) frame.listed stream f refl known spared time)
+    let o = place_of (IsDeliveryOf w f) (Deliveries h) (delivered_at_last w v run good n h done legal k k_lt n_is (stream_of w f) (row w f) frame.listed stream f refl known spared time) in
+    any_at (IsDeliveryOf w f) (Deliveries h) o.0 o.1 o.2 o.3

@@ -20,9 +20,9 @@ use Rattle.pre_history.specs.Scenario.{Scenario, FrameOf, arc, row, send, no_row
 use Rattle.pre_history.specs.History.{History, Begin}
 use Rattle.pre_history.specs.Selected.{RingEntry, entry_on}
 use Rattle.pre_history.specs.Queries.{Begins, Entries}
-use Rattle.pre_history.specs.Comings.{hops, after}
+use Rattle.pre_history.specs.Comings.{Coming, EntriesOf, hops, after}
 use Rattle.pre_history.specs.Legal.{LegalUpTo}
-use Rattle.pre_history.proofs.Lists.{there, within, every_weaker}
+use Rattle.pre_history.proofs.Lists.{there, within, every_at, every_placed, every_weaker}
 use Rattle.pre_history.proofs.Pairs.{Pairs}
 use Rattle.pre_history.proofs.Routes.{one_before, not_first}
 use Rattle.pre_history.proofs.Relays.{ComesBy, IsSent, IsRelayed}
@@ -30,8 +30,9 @@ use Rattle.pre_history.proofs.Undamaged.{length-FrameOf}
 use Rattle.pre_bound.specs.Uses.{TakesAt}
 use Rattle.pre_bound.proofs.Sums.{sum_by-filter-cons}
 use Rattle.pre_delay.specs.Ticks.{is_from_to, octets_from_to}
-use Rattle.pre_delay.specs.Ports.{stream_of, wire, StreamObeys, IsKnown}
-use Rattle.pre_delay.specs.Arcs.{Queued, Some_of, entered_from_to, CameFrom, OtherFrames}
+use Rattle.pre_delay.specs.Ports.{stream_of, wire, StreamObeys}
+use Rattle.pre_delay.proofs.Port.{IsKnown}
+use Rattle.pre_delay.proofs.Arcs.{Queued, Some_of, entered_from_to, CameFrom, OtherFrames}
 use Rattle.pre_delay.specs.Runs.{IsRun, sends_of}
 use Rattle.pre_delay.proofs.Lists.{Apart, sums-matched}
 use Rattle.pre_delay.proofs.Members.{every-filter, every-weaker, some-filter}
@@ -40,7 +41,8 @@ use Rattle.pre_delay.proofs.Hop.{hop_grows}
 use Rattle.pre_delay.proofs.Seen.{as_queued}
 use Rattle.pre_delay.proofs.Certified.{is_yes}
 use Rattle.pre_delay.proofs.Once.{coming_to, hop_before}
-use Rattle.pre_delay.proofs.Apart.{OtherFrame}
+use Rattle.pre_delay.proofs.Apart.{OtherFrame, comers}
+use Rattle.pre_delay.proofs.Entering.{entering, told_entries}
 use Rattle.pre_delay.proofs.Known.{read_any}
 
 abbrev pub of_stream : Scenario → (i from to : ℕ) → RingEntry → Bool
@@ -62,6 +64,48 @@ front_less w xs ys i burst rate obeys from to le =
 pub front_obeys : (w : Scenario) (h g : History) (a q i burst rate : ℕ) → StreamObeys w (h ++ g) a q i burst rate → StreamObeys w h a q i burst rate
 front_obeys w h g a q i burst rate obeys =
     front_less w (Entries h a q) (Entries g a q) i burst rate (subst (λ rs. ListObeys w rs i burst rate) (filter_map-append (entry_on a q) h g) obeys)
+
+-- ---- what is told
+
+-- the octets of a stream's entries from one tick to another
+ring_sum-append : (w : Scenario) (i from to : ℕ) (xs ys : List RingEntry)
+    → sum_by (wire w) (filter (of_stream w i from to) (xs ++ ys)) ≡ sum_by (wire w) (filter (of_stream w i from to) xs) + sum_by (wire w) (filter (of_stream w i from to) ys)
+ring_sum-append w i from to xs ys = ap (sum_by (wire w)) (filter-append (of_stream w i from to) xs ys) ∙ sum_by-append (wire w) (filter (of_stream w i from to) xs) (filter (of_stream w i from to) ys)
+
+ring_sum-told : (w : Scenario) (t a p i from to : ℕ) (rs : List RingEntry)
+    → sum_by (wire w) (filter (of_stream w i from to) (map (entering w t a p) rs)) ≡ sum_by (wire w) (filter (of_stream w i from to) rs)
+ring_sum-told w t a p i from to [] = refl
+ring_sum-told w t a p i from to (r ∷ rs) =
+    let rest = ring_sum-told w t a p i from to rs in
+    let left = sum_by-filter-cons (wire w) (of_stream w i from to) (entering w t a p r) (map (entering w t a p) rs) in
+    let right = sum_by-filter-cons (wire w) (of_stream w i from to) r rs in
+    omega (arith, rest, left, right)
+
+-- what comes to a ring at a tick is as much as is told of it
+told_sum : (w : Scenario) (t a p i from to : ℕ) (g : History) (cs : List Coming)
+    → sum_by (wire w) (filter (of_stream w i from to) (Entries (EntriesOf w t g cs) a p)) ≡ sum_by (wire w) (filter (of_stream w i from to) (comers w t a p cs))
+told_sum w t a p i from to g cs =
+    sym (ring_sum-told w t a p i from to (Entries (EntriesOf w t g cs) a p)) ∙ ap (λ rs. sum_by (wire w) (filter (of_stream w i from to) rs)) (told_entries w t a p g cs)
+
+pub obeys_told : (w : Scenario) (t a p i burst rate : ℕ) (past : History) (cs : List Coming)
+    → ListObeys w (Entries past a p ++ comers w t a p cs) i burst rate → StreamObeys w (past ++ EntriesOf w t past cs) a p i burst rate
+obeys_told w t a p i burst rate past cs obeys from to le =
+    let all = obeys from to le in
+    let here = ring_sum-append w i from to (Entries past a p) (comers w t a p cs) in
+    let told = ring_sum-append w i from to (Entries past a p) (Entries (EntriesOf w t past cs) a p) in
+    let joined = ap (λ rs. sum_by (wire w) (filter (of_stream w i from to) rs)) (filter_map-append (entry_on a p) past (EntriesOf w t past cs)) in
+    let same = told_sum w t a p i from to past cs in
+    omega (arith, all, here, told, joined, same)
+
+pub told_obeys : (w : Scenario) (t a p i burst rate : ℕ) (past : History) (cs : List Coming)
+    → StreamObeys w (past ++ EntriesOf w t past cs) a p i burst rate → ListObeys w (Entries past a p ++ comers w t a p cs) i burst rate
+told_obeys w t a p i burst rate past cs obeys from to le =
+    let all = obeys from to le in
+    let here = ring_sum-append w i from to (Entries past a p) (comers w t a p cs) in
+    let told = ring_sum-append w i from to (Entries past a p) (Entries (EntriesOf w t past cs) a p) in
+    let joined = ap (λ rs. sum_by (wire w) (filter (of_stream w i from to) rs)) (filter_map-append (entry_on a p) past (EntriesOf w t past cs)) in
+    let same = told_sum w t a p i from to past cs in
+    omega (arith, all, here, told, joined, same)
 
 -- ---- lists
 
@@ -161,9 +205,22 @@ AllLeft w h b p delay =
     (j : ℕ) (y : RingEntry) → slice_get (Entries h b p) j ≡ Some y → y.entered ≡ true → (k : ℕ) (g : Begin) → slice_get (Begins h b) k ≡ Some g → g.what ≡ what.Frame (record { 0 = y.frame })
     → g.tick + (arc w b).cost * wire w y ≤ y.tick + delay
 
+-- each frame of the stream that began early enough to come to the next ring by a tick had entered in the past, and has left
+abbrev pub HaveLeft : Scenario → (h past : History) → (b p i t delay : ℕ) → Type 0
+HaveLeft w h past b p i t delay =
+    (j : ℕ) (y : RingEntry) → slice_get (Entries h b p) j ≡ Some y → y.entered ≡ true → stream_of w y.frame ≡ i → (k : ℕ) (g : Begin) → slice_get (Begins h b) k ≡ Some g → g.what ≡ what.Frame (record { 0 = y.frame })
+    → g.tick + 72 * (arc w b).cost ≤ t → Some_of (λ z. z ≡ y) (Entries past b p) × (g.tick + (arc w b).cost * wire w y ≤ y.tick + delay)
+
+pub have_left : (w : Scenario) (h : History) (b p i t delay : ℕ) → AllLeft w h b p delay → HaveLeft w h h b p i t delay
+have_left w h b p i t delay left j y at on stream k g begun carries soon = (some_at (λ z. z ≡ y) (Entries h b p) j y at refl, left j y at on k g begun carries)
+
+some_weaker : {X : Type 0} (P Q : X → Type 0) (xs : List X) → ((x : X) → P x → Q x) → Some_of P xs → Some_of Q xs
+some_weaker P Q [] says some = absurd some
+some_weaker P Q (x ∷ xs) says (inl here) = inl (says x here)
+some_weaker P Q (x ∷ xs) says (inr more) = inr (some_weaker P Q xs says more)
+
 module _ (w : Scenario) (n : ℕ) (h : History) (legal : LegalUpTo w n h) (routes : (f : ℕ) → AllPairs (λ x y. x ≢ y) (hops w f)) where
-  module _ (a b i hop : ℕ) (r : Row) (at : slice_get w.streams.rows i ≡ Some r) (here : TakesAt r hop b) (next : TakesAt r (hop + 1) a) (high : (arc w b).express_from ≤ r.prio) (inside : b < length w.net.arcs)
-      (delay : ℕ) (left : AllLeft w h b r.prio delay) where
+  module _ (a b i hop : ℕ) (r : Row) (at : slice_get w.streams.rows i ≡ Some r) (here : TakesAt r hop b) (next : TakesAt r (hop + 1) a) where
     follows : (f : ℕ) → row w f ≡ r → after b (hops w f) ≡ Some a
     follows f is =
         let k : suc hop ≡ hop + 1 = omega arith in
@@ -176,39 +233,43 @@ module _ (w : Scenario) (n : ℕ) (h : History) (legal : LegalUpTo w n h) (route
         let same : c ≡ b = one_before (hops w x.frame) (routes x.frame) c b a q.next (follows x.frame is) in
         subst (λ k. IsRelayed w h x.tick k (coming_to a x.frame)) same q
 
-    came_from : 84 * (arc w b).cost ≤ delay → (x : RingEntry) → KnownToCome w h a x → (stream_of w x.frame == i) ≡ true
-        → CameFrom ((arc w b).delay + latency w b) (72 * (arc w b).cost) (delay - 12 * (arc w b).cost) (stream_queue w i (Entries h b r.prio)) (as_queued w x)
-    came_from least x (known, by) on =
+  module _ (a b i hop : ℕ) (r : Row) (at : slice_get w.streams.rows i ≡ Some r) (here : TakesAt r hop b) (next : TakesAt r (hop + 1) a) (high : (arc w b).express_from ≤ r.prio) (inside : b < length w.net.arcs)
+      (past : History) (t delay : ℕ) (left : HaveLeft w h past b r.prio i t delay) where
+    came_from : 84 * (arc w b).cost ≤ delay → (x : RingEntry) → KnownToCome w h a x → x.tick ≤ t → (stream_of w x.frame == i) ≡ true
+        → CameFrom ((arc w b).delay + latency w b) (72 * (arc w b).cost) (delay - 12 * (arc w b).cost) (stream_queue w i (Entries past b r.prio)) (as_queued w x)
+    came_from least x (known, by) soon on =
         let stream : stream_of w x.frame ≡ i = grind (arith, nat_tests, on) in
         let is = row_is w i x.frame r at stream in
         let prio : (row w x.frame).prio ≡ r.prio = ap (λ (y : Row). y.prio) is in
-        let o = hop_before w n h legal routes x.tick b (coming_to a x.frame) inside (omega (arith, prio, high)) (by_relay x is by) in
+        let o = hop_before w n h legal routes x.tick b (coming_to a x.frame) inside (omega (arith, prio, high)) (by_relay a b i hop r at here next x is by) in
         let there' : slice_get (Entries h b r.prio) o.place ≡ Some o.entry = subst (λ p. slice_get (Entries h b p) o.place ≡ Some o.entry) prio o.at in
-        let out = left o.place o.entry there' o.entered o.ord o.begin o.begun (o.carries ∙ ap (λ f. what.Frame (record { 0 = f })) (sym o.same)) in
+        let some : (arc w b).cost * 72 ≤ (arc w b).cost * (length (FrameOf w x.frame) + 8) = mul-le-mul_left (arc w b).cost (omega (arith, known.least)) in
+        let old = left o.place o.entry there' o.entered (ap (stream_of w) o.same ∙ stream) o.ord o.begin o.begun (o.carries ∙ ap (λ f. what.Frame (record { 0 = f })) (sym o.same)) (omega (arith, o.comes, some, soon)) in
+        let out = old.1 in
         let long : wire w o.entry ≡ length (FrameOf w x.frame) + 20 = ap (λ f. length (FrameOf w f) + 20) o.same in
         let cost : (arc w b).cost * wire w o.entry ≡ (arc w b).cost * (length (FrameOf w x.frame) + 20) = ap (λ k. (arc w b).cost * k) long in
         let spread : (arc w b).cost * (length (FrameOf w x.frame) + 20) ≡ (arc w b).cost * (length (FrameOf w x.frame) + 8) + 12 * (arc w b).cost = omega arith in
-        let some : (arc w b).cost * 72 ≤ (arc w b).cost * (length (FrameOf w x.frame) + 8) = mul-le-mul_left (arc w b).cost (omega (arith, known.least)) in
         some_through (as_queued w) (λ y. (y.frame ≡ x.frame) × (wire w x ≤ y.octets) × (y.tick + ((arc w b).delay + latency w b) + 72 * (arc w b).cost ≤ x.tick) × (x.tick ≤ y.tick + ((arc w b).delay + latency w b) + (delay - 12 * (arc w b).cost)))
-        (filter (λ (y : RingEntry). stream_of w y.frame == i) (Entries h b r.prio))
+        (filter (λ (y : RingEntry). stream_of w y.frame == i) (Entries past b r.prio))
         (some-filter (λ (y : RingEntry). (y.frame ≡ x.frame) × (wire w x ≤ wire w y) × (y.tick + ((arc w b).delay + latency w b) + 72 * (arc w b).cost ≤ x.tick) × (x.tick ≤ y.tick + ((arc w b).delay + latency w b) + (delay - 12 * (arc w b).cost)))
-        (λ (y : RingEntry). stream_of w y.frame == i) (Entries h b r.prio)
-        (some_at (λ (y : RingEntry). ((stream_of w y.frame == i) ≡ true) × ((y.frame ≡ x.frame) × (wire w x ≤ wire w y) × (y.tick + ((arc w b).delay + latency w b) + 72 * (arc w b).cost ≤ x.tick) × (x.tick ≤ y.tick + ((arc w b).delay + latency w b) + (delay - 12 * (arc w b).cost))))
-        (Entries h b r.prio) o.place o.entry there'
-        (ap (λ f. stream_of w f == i) o.same ∙ on, (o.same, omega (arith, long), omega (arith, o.comes, o.by, some), omega (arith, o.comes, out, cost, spread)))))
+        (λ (y : RingEntry). stream_of w y.frame == i) (Entries past b r.prio)
+        (some_weaker (λ (y : RingEntry). y ≡ o.entry) (λ (y : RingEntry). ((stream_of w y.frame == i) ≡ true) × ((y.frame ≡ x.frame) × (wire w x ≤ wire w y) × (y.tick + ((arc w b).delay + latency w b) + 72 * (arc w b).cost ≤ x.tick) × (x.tick ≤ y.tick + ((arc w b).delay + latency w b) + (delay - 12 * (arc w b).cost))))
+        (Entries past b r.prio) (λ y same. subst (λ (z : RingEntry). ((stream_of w z.frame == i) ≡ true) × ((z.frame ≡ x.frame) × (wire w x ≤ wire w z) × (z.tick + ((arc w b).delay + latency w b) + 72 * (arc w b).cost ≤ x.tick) × (x.tick ≤ z.tick + ((arc w b).delay + latency w b) + (delay - 12 * (arc w b).cost)))) (sym same)
+        (ap (λ f. stream_of w f == i) o.same ∙ on, (o.same, omega (arith, long), omega (arith, o.comes, o.by, some), omega (arith, o.comes, out, cost, spread)))) old.0))
 
     -- What comes to the next hop of a stream is within the grown burst.
-    pub next_obeys : (burst rate next_burst : ℕ) (rs : List RingEntry) → Every (KnownToCome w h a) rs → Pairs OtherFrame rs → StreamObeys w h b r.prio i burst rate → 84 * (arc w b).cost ≤ delay
+    pub next_obeys : (burst rate next_burst : ℕ) (rs : List RingEntry) → Every (KnownToCome w h a) rs → Every (λ (x : RingEntry). x.tick ≤ t) rs → Pairs OtherFrame rs → StreamObeys w past b r.prio i burst rate → 84 * (arc w b).cost ≤ delay
         → 1_000_000 * burst + rate * (delay - 84 * (arc w b).cost) ≤ 1_000_000 * next_burst → ListObeys w rs i next_burst rate
-    next_obeys burst rate next_burst rs come apart obeys least covers from to le =
+    next_obeys burst rate next_burst rs come soon apart obeys least covers from to le =
         let same : delay - 12 * (arc w b).cost - 72 * (arc w b).cost ≡ delay - 84 * (arc w b).cost = omega arith in
         let product = ap (λ k. rate * k) same in
-        let grown = hop_grows burst rate ((arc w b).delay + latency w b) (72 * (arc w b).cost) (delay - 12 * (arc w b).cost) next_burst (stream_queue w i (Entries h b r.prio)) (stream_queue w i rs)
+        let grown = hop_grows burst rate ((arc w b).delay + latency w b) (72 * (arc w b).cost) (delay - 12 * (arc w b).cost) next_burst (stream_queue w i (Entries past b r.prio)) (stream_queue w i rs)
         (omega (arith, product, covers)) (omega (arith, least))
-        (λ f t l. let o = obeys f t l in let e = queue_sum w i f t (Entries h b r.prio) in omega (arith, o, e))
+        (λ f t l. let o = obeys f t l in let e = queue_sum w i f t (Entries past b r.prio) in omega (arith, o, e))
         (others_through w (λ (x : RingEntry). stream_of w x.frame == i) rs apart)
-        (every_through (as_queued w) (CameFrom ((arc w b).delay + latency w b) (72 * (arc w b).cost) (delay - 12 * (arc w b).cost) (stream_queue w i (Entries h b r.prio))) (λ (x : RingEntry). stream_of w x.frame == i) rs
-        (every_weaker (KnownToCome w h a) (λ x. (stream_of w x.frame == i) ≡ true → CameFrom ((arc w b).delay + latency w b) (72 * (arc w b).cost) (delay - 12 * (arc w b).cost) (stream_queue w i (Entries h b r.prio)) (as_queued w x)) (came_from least) rs come))
+        (every_through (as_queued w) (CameFrom ((arc w b).delay + latency w b) (72 * (arc w b).cost) (delay - 12 * (arc w b).cost) (stream_queue w i (Entries past b r.prio))) (λ (x : RingEntry). stream_of w x.frame == i) rs
+        (every_placed (λ x. (stream_of w x.frame == i) ≡ true → CameFrom ((arc w b).delay + latency w b) (72 * (arc w b).cost) (delay - 12 * (arc w b).cost) (stream_queue w i (Entries past b r.prio)) (as_queued w x)) rs
+        (λ k x at'. came_from least x (every_at (KnownToCome w h a) rs k x come at') (every_at (λ (y : RingEntry). y.tick ≤ t) rs k x soon at'))))
         from to le in
         let e = queue_sum w i from to rs in
         omega (arith, grown, e)

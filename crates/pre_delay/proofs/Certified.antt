@@ -24,8 +24,9 @@ use Rattle.pre_bound.specs.Solutions.{CoversDelay}
 use Rattle.pre_bound.proofs.Sums.{sum_by-filter-cons, sums_ge}
 use Rattle.pre_bound.proofs.Hops.{OnArc-from, is_on-from}
 use Rattle.pre_delay.specs.Ticks.{is_from_to}
-use Rattle.pre_delay.specs.Ports.{stream_of, wire, StreamObeys, IsKnown, IsPort, IsOnTime}
-use Rattle.pre_delay.specs.Arcs.{Queued, Some_of, Mine, WaitsAt, MineWaits, BegunBefore, Serves, Enters, IsCovered, entered_from_to}
+use Rattle.pre_delay.specs.Ports.{stream_of, wire, StreamObeys, IsOnTime}
+use Rattle.pre_delay.proofs.Port.{IsKnown, IsPort}
+use Rattle.pre_delay.proofs.Arcs.{Queued, Some_of, Mine, WaitsAt, MineWaits, BegunBefore, Serves, Enters, IsCovered, entered_from_to}
 use Rattle.pre_delay.proofs.Shares.{several}
 use Rattle.pre_delay.proofs.Members.{every-filter, every-weaker}
 use Rattle.pre_delay.proofs.Rings.{entries_prio}
@@ -139,14 +140,14 @@ is_yes m n e = grind (arith, nat_tests)
 
 module _ (w : Scenario) (n : ℕ) (h : History) (a : ℕ) (legal : LegalUpTo w n h)
     (known : (q j : ℕ) (r : RingEntry) → slice_get (Entries h a q) j ≡ Some r → r.entered ≡ true → IsKnown w a r.frame) (v : Values)
-    (obeys : (q i : ℕ) (r : Row) → slice_get w.streams.rows i ≡ Some r → is_on a q (q + 1) r ≡ true → StreamObeys w h a q i (v.burst i (hop_of a r)) (rate_of r)) where
+    (low : ℕ) (obeys : (q i : ℕ) (r : Row) → low ≤ q → slice_get w.streams.rows i ≡ Some r → is_on a q (q + 1) r ≡ true → StreamObeys w h a q i (v.burst i (hop_of a r)) (rate_of r)) where
   rows : List Row
   rows = w.streams.rows
 
   -- what enters the ring of a priority is within the bursts and the rates of its streams
-  pub ring_obeys : (q : ℕ) → (arc w a).express_from ≤ q → (from to : ℕ) → from ≤ to
+  pub ring_obeys : (q : ℕ) → low ≤ q → (arc w a).express_from ≤ q → (from to : ℕ) → from ≤ to
       → 1_000_000 * entered_from_to from to (queued w h a q) ≤ 1_000_000 * certified_bursts v a q (q + 1) w.streams.rows + rates_on a q (q + 1) w.streams.rows * (to - from)
-  ring_obeys q high from to le =
+  ring_obeys q above_low high from to le =
       let on = λ (e : ℕ × Row). is_on a q (q + 1) e.1 in
       let ks = filter (λ e. is_on a q (q + 1) e.1) (enumerate_from 0 w.streams.rows) in
       let xs = filter (λ x. is_from_to from to x.tick) (queued w h a q) in
@@ -155,7 +156,7 @@ module _ (w : Scenario) (n : ℕ) (h : History) (a : ℕ) (legal : LegalUpTo w n
       (every-filter (λ x. Some_of (λ k. (stream_of w x.frame == k.0) ≡ true) ks) (λ x. is_from_to from to x.tick) (queued w h a q)
       (every-queue w h a q (λ x. Some_of (λ k. (stream_of w x.frame == k.0) ≡ true) ks) (λ j r at entered. belongs j r at entered))))
       (every-row (is_on a q (q + 1)) (λ k. 1_000_000 * sum_by (λ x. x.octets) (filter (λ x. stream_of w x.frame == k.0) xs) ≤ 1_000_000 * v.burst k.0 (hop_of a k.1) + rate_of k.1 * (to - from)) 0 w.streams.rows
-      (λ i r at on'. let share = obeys q i r at on' from to le in let fewer = entered-le w from to i (Entries h a q) in
+      (λ i r at on'. let share = obeys q i r above_low at on' from to le in let fewer = entered-le w from to i (Entries h a q) in
       let z : 0 + i ≡ i = omega arith in
       subst (λ m. 1_000_000 * sum_by (λ x. x.octets) (filter (λ x. stream_of w x.frame == m) xs) ≤ 1_000_000 * v.burst m (hop_of a r) + rate_of r * (to - from)) (sym z) (omega (arith, share, fewer))))
       in
@@ -172,12 +173,12 @@ module _ (w : Scenario) (n : ℕ) (h : History) (a : ℕ) (legal : LegalUpTo w n
           some-row (is_on a q (q + 1)) (λ k. (stream_of w r.frame == k.0) ≡ true) 0 w.streams.rows (stream_of w r.frame) (row w r.frame) k.listed on (is_yes (stream_of w r.frame) (0 + stream_of w r.frame) (omega arith))
 
   -- and what enters the rings above
-  pub above_obeys : (p k : ℕ) → (arc w a).express_from ≤ p → (from to : ℕ) → from ≤ to
+  pub above_obeys : (p k : ℕ) → low ≤ p → (arc w a).express_from ≤ p → (from to : ℕ) → from ≤ to
       → 1_000_000 * entered_from_to from to (above w h a p k) ≤ 1_000_000 * certified_bursts v a (p + 1) (p + 1 + k) w.streams.rows + rates_on a (p + 1) (p + 1 + k) w.streams.rows * (to - from)
-  above_obeys p zero high from to le = omega arith
-  above_obeys p (suc k) high from to le =
-      let before = above_obeys p k high from to le in
-      let here = ring_obeys (p + 1 + k) (omega arith) from to le in
+  above_obeys p zero above_low high from to le = omega arith
+  above_obeys p (suc k) above_low high from to le =
+      let before = above_obeys p k above_low high from to le in
+      let here = ring_obeys (p + 1 + k) (omega arith) (omega arith) from to le in
       let split = ap (sum_by (λ (x : Queued). x.octets)) (filter-append (λ (x : Queued). is_from_to from to x.tick) (above w h a p k) (queued w h a (p + 1 + k)))
       ∙ sum_by-append (λ (x : Queued). x.octets) (filter (λ x. is_from_to from to x.tick) (above w h a p k)) (filter (λ x. is_from_to from to x.tick) (queued w h a (p + 1 + k))) in
       let e : p + 1 + k + 1 ≡ p + 1 + suc k = omega arith in
@@ -187,12 +188,12 @@ module _ (w : Scenario) (n : ℕ) (h : History) (a : ℕ) (legal : LegalUpTo w n
       subst (λ m. 1_000_000 * entered_from_to from to (above w h a p (suc k)) ≤ 1_000_000 * certified_bursts v a (p + 1) m w.streams.rows + rates_on a (p + 1) m w.streams.rows * (to - from)) e
       (omega (arith, before, here, split, bursts, product))
 
-  pub enters : (p : ℕ) → (arc w a).express_from ≤ p → p < 8
+  pub enters : (p : ℕ) → low ≤ p → (arc w a).express_from ≤ p → p < 8
       → Enters (traffic w h a p) (certified_bursts v a p (p + 1) w.streams.rows) (rates_on a p (p + 1) w.streams.rows) (certified_bursts v a (p + 1) 8 w.streams.rows) (rates_on a (p + 1) 8 w.streams.rows)
-  enters p high top = record {
-    own = ring_obeys p high;
+  enters p above_low high top = record {
+    own = ring_obeys p above_low high;
     higher = λ from to le. let e : p + 1 + (7 - p) ≡ 8 = omega arith in
-        subst (λ m. 1_000_000 * entered_from_to from to (above w h a p (7 - p)) ≤ 1_000_000 * certified_bursts v a (p + 1) m w.streams.rows + rates_on a (p + 1) m w.streams.rows * (to - from)) e (above_obeys p (7 - p) high from to le);
+        subst (λ m. 1_000_000 * entered_from_to from to (above w h a p (7 - p)) ≤ 1_000_000 * certified_bursts v a (p + 1) m w.streams.rows + rates_on a (p + 1) m w.streams.rows * (to - from)) e (above_obeys p (7 - p) above_low high from to le);
   }
 
 -- the clauses of a good certificate at the port
@@ -228,7 +229,7 @@ module _ (w : Scenario) (n : ℕ) (h : History) (a p done : ℕ) (v : Values) (p
       (ap (λ o. option_map_or (λ (x : Arc). x.cost) o 0) here) (covered w.net w.streams.rows v a p port.below port.load port.work port.delay)
 
   pub port_enters : Enters (traffic w h a p) (certified_bursts v a p (p + 1) w.streams.rows) (rates_on a p (p + 1) w.streams.rows) (certified_bursts v a (p + 1) 8 w.streams.rows) (rates_on a (p + 1) 8 w.streams.rows)
-  port_enters = enters w n h a port.legal port.known v port.obeys p port.express port.below
+  port_enters = enters w n h a port.legal port.known v p port.obeys p (omega arith) port.express port.below
 
   pub on_time : (j : ℕ) (r : RingEntry) → slice_get (Entries h a p) j ≡ Some r → r.entered ≡ true → r.tick < done → begun_before h a r.tick r.frame ≡ false → IsOnTime w h a done (v.delay a p) r
   on_time j r there entered known fresh =

@@ -3,7 +3,6 @@ use Rattle.std.proofs.Common.{ℕ, zero, suc, true, ◌≡◌, ◌≢◌, ◌+�
 use Rattle.std.specs.Prelude.{slice_get, sum_by, unwrap_or, option_and_then}
 use Rattle.std.specs.Option.{option_map, option_map_or}
 use Rattle.std.specs.List.{AllByRecursion as Every}
-use Rattle.std.proofs.lemmas.Bool.{cases_lt}
 use Rattle.std.proofs.lemmas.Option.{slice_get-get_or}
 use Rattle.std.proofs.lemmas.List.Sums.{sum_by-cons, sum_by-take-le}
 use Rattle.pre_base.specs.declared.numbers.ArcId.{ArcId}
@@ -16,7 +15,7 @@ use Rattle.pre_history.specs.declared.events.What.TheVariants as what
 use Rattle.pre_history.specs.Scenario.{Scenario, FrameOf, IsExpressFrame, arc, row, send, no_arc}
 use Rattle.pre_history.specs.Moments.{Phase, moments, phase_at}
 use Rattle.pre_history.specs.History.{PlainEvent, History, Begin, Ended, Delivery}
-use Rattle.pre_history.specs.Selected.{RingEntry, frame_in, delivery_of, what_is}
+use Rattle.pre_history.specs.Selected.{RingEntry, frame_in, delivery_of}
 use Rattle.pre_history.specs.Queries.{Begins, Ends, Entries, Deliveries}
 use Rattle.pre_history.specs.Octets.{whole_of}
 use Rattle.pre_history.specs.Starts.{SizeOf}
@@ -25,27 +24,25 @@ use Rattle.pre_history.specs.Rules.{HappensIn, Each, Arriving, WithDelivery, del
 use Rattle.pre_history.specs.Placed.{HasPlace, number, IsAt, AllAt}
 use Rattle.pre_history.specs.Legal.{LegalUpTo}
 use Rattle.pre_history.proofs.Lists.{there, within, every-append, every_at, every_placed, every_weaker, every_selected}
-use Rattle.pre_history.proofs.Placing.{placed, moment_events, place_at, place_below, numbered, same_place}
+use Rattle.pre_history.proofs.Placing.{moment_events, place_at, place_below, numbered, same_place}
 use Rattle.pre_history.proofs.Relays.{ComesBy, frame_in_is}
 use Rattle.pre_history.proofs.Routes.{not_first}
-use Rattle.pre_history.proofs.Turns.{tick_lt}
-use Rattle.pre_history.proofs.Free.{begins_before}
 use Rattle.pre_history.proofs.InOrder.{steady}
 use Rattle.pre_bound.specs.Uses.{TakesAt, hop_of, is_stream, has_port, cost_at}
 use Rattle.pre_bound.specs.Along.{hop_ticks}
 use Rattle.pre_bound.specs.Values.{Values}
 use Rattle.pre_bound.specs.Good.{AreGood}
 use Rattle.pre_bound.proofs.Hops.{TakesAt-hop_of, TakesAt-place, TakesAt-from}
-use Rattle.pre_delay.specs.Ports.{stream_of, wire, IsKnown}
+use Rattle.pre_delay.specs.Ports.{stream_of, wire}
+use Rattle.pre_delay.proofs.Port.{IsKnown}
 use Rattle.pre_delay.specs.Runs.{IsRun}
-use Rattle.pre_delay.proofs.Rings.{front_of_ring, entries_prio}
+use Rattle.pre_delay.proofs.Rings.{front_of_ring}
 use Rattle.pre_delay.proofs.Sent.{express_begins}
-use Rattle.pre_delay.proofs.Seen.{some-begun}
-use Rattle.pre_delay.proofs.Certified.{on_time, is_yes}
 use Rattle.pre_delay.proofs.Once.{coming_to, entries_came, hop_before}
-use Rattle.pre_delay.proofs.Known.{begun_high, is_fresh, read_any, known, routes, hop_within}
+use Rattle.pre_delay.proofs.Known.{begun_high, read_any, known, routes, hop_within}
 use Rattle.pre_delay.proofs.Bursts.{AllLeft, by_relay, taken_at}
-use Rattle.pre_delay.proofs.Whole.{rules, row_high, below, port_of, port, obey_and_enter}
+use Rattle.pre_delay.proofs.OnePort.{rules, row_high, below, port_of, timely}
+use Rattle.pre_delay.proofs.Network.{all_obey, port_obeys}
 
 -- ---- an mPacket that ended
 
@@ -133,23 +130,12 @@ module _ (w : Scenario) (v : Values) (run : IsRun w) (good : AreGood w.net w.str
   cost_of : (a : ℕ) → a < length w.net.arcs → cost_at w.net a ≡ (arc w a).cost
   cost_of a lt = ap (λ o. option_map_or (λ (x : Arc). x.cost) o 0) (slice_get-get_or w.net.arcs a no_arc lt)
 
-  module _ (n : ℕ) (h : History) (done : ℕ) (legal : LegalUpTo w n h) (over : number (length w.net.arcs) done 0 ≤ n) (unstarted : n ≤ number (length w.net.arcs) done (2 + 3 * length w.net.arcs)) where
+  module _ (n : ℕ) (h : History) (legal : LegalUpTo w n h) where
     -- what began has left within the delay
-    left_by : (a p : ℕ) → a < length w.net.arcs → p < 8 → (arc w a).express_from ≤ p → has_port w.streams.rows a p ≡ true → AllLeft w h a p (v.delay a p)
-    left_by a p lt top high has j y at on k g there' carries =
-        let A = length w.net.arcs in
-        let new = is_fresh w run n h legal a p j y lt high at on in
-        let x = every_at (λ (b : Begin). (b.arc ≡ a) × (number A b.tick (2 + 3 * A + a) < n)) (Begins h a) k g (begins_before A n a h (placed w n h legal)) there' in
-        let early : g.tick < done = tick_lt (moments A) g.tick done (2 + 3 * A) (omega (arith, x.1, unstarted)) in
-        let from : g.from ≡ 0 = (express_begins w n h a k g (record { 0 = y.frame }) lt legal there' carries (prio_high j y at on)).from in
-        let after : y.tick ≤ g.tick = elim (cases_lt g.tick y.tick) [
-          | inl less ↦ absurd (let yes' = some-begun h a y.tick y.frame k g there' less (ap (λ z. what_is z y.frame) carries ∙ is_yes y.frame y.frame refl) from in cc (yes', new))
-          | inr more ↦ more
-        ] in
-        (on_time w n h a p done v (port w v run good n h a p done lt top high has legal over unstarted (obey_and_enter w v run good n h legal).0) j y at on (omega (arith, early, after)) new).left k g there' carries
-      where
-        prio_high : (j : ℕ) (y : RingEntry) → slice_get (Entries h a p) j ≡ Some y → y.entered ≡ true → (arc w a).express_from ≤ (row w y.frame).prio
-        prio_high j y at on = let e = every_at (λ (z : RingEntry). z.entered ≡ true → p ≡ (row w z.frame).prio) (Entries h a p) j y (entries_prio w n h a p legal) at on in omega (arith, e, high)
+    left_by : (a p : ℕ) → has_port w.streams.rows a p ≡ true → AllLeft w h a p (v.delay a p)
+    left_by a p has j y at on k g there' carries =
+        let times = timely w v run good a p has n h (n / moments (length w.net.arcs)) (n % moments (length w.net.arcs)) (place_below (length w.net.arcs) n) (numbered (length w.net.arcs) n) legal (port_obeys w v run good h a p (all_obey w v run good n h legal)) in
+        (times.begun_in_time j y at).left k g there' carries
 
     module _ (i : ℕ) (r : Row) (at : slice_get w.streams.rows i ≡ Some r) (stream : is_stream r ≡ true) (f : ℕ) (is : row w f ≡ r) where
       high : (j a : ℕ) → TakesAt r j a → (arc w a).express_from ≤ r.prio
@@ -157,7 +143,7 @@ module _ (w : Scenario) (v : Values) (run : IsRun w) (good : AreGood w.net w.str
 
       left_at : (j a : ℕ) → TakesAt r j a → AllLeft w h a r.prio (v.delay a r.prio)
       left_at j a here =
-          left_by a r.prio (hop_within w run r (rules w v run good i r at) j a here) (below w v run good i r at) (high j a here) (port_of w v run good i r at stream j a here)
+          left_by a r.prio (port_of w v run good i r at stream j a here)
 
       pub delay_least : (j a : ℕ) → TakesAt r j a → 84 * (arc w a).cost ≤ v.delay a r.prio
       delay_least j a here =
@@ -185,7 +171,7 @@ module _ (w : Scenario) (v : Values) (run : IsRun w) (good : AreGood w.net w.str
           let before : TakesAt r j b = TakesAt-from r j (record { 0 = 0 }) (omega (arith, place.0)) in
           let next : TakesAt r (j + 1) a = let e : suc j ≡ j + 1 = omega arith in subst (λ m. TakesAt r m a) e here in
           let lt = hop_within w run r (rules w v run good i r at) j b before in
-          let relay = by_relay w n h legal (routes w run) a b i j r at before next (high j b before) lt (v.delay b r.prio) (left_at j b before) x row_is by in
+          let relay = by_relay w n h legal (routes w run) a b i j r at before next x row_is by in
           let o = hop_before w n h legal (routes w run) x.tick b (coming_to a x.frame) lt (let up = high j b before in omega (arith, prio, up)) relay in
           let there' : slice_get (Entries h b r.prio) o.place ≡ Some o.entry = subst (λ p. slice_get (Entries h b p) o.place ≡ Some o.entry) prio o.at in
           let out = left_at j b before o.place o.entry there' o.entered o.ord o.begin o.begun (o.carries ∙ ap (λ f. what.Frame (record { 0 = f })) (sym o.same)) in
@@ -274,7 +260,7 @@ module _ (w : Scenario) (v : Values) (run : IsRun w) (good : AreGood w.net w.str
         subst (Every Timely) (sym is) (
           tt,
           delivered_timely (arc w a).to.0 f octets (next_arc w a f)
-              (λ stream. let high = begun_high w run (number (length w.net.arcs) t (1 + length w.net.arcs + a)) past legal a k b.0 (record { 0 = f }) b.1 b.2 stream in let x = ends_in_bound (number (length w.net.arcs) t (1 + length w.net.arcs + a)) past t legal (omega arith) (omega (arith, lt)) a k f b.0 e lt high b.1 at b.2 in omega (arith, x, due)),
+              (λ stream. let high = begun_high w run (number (length w.net.arcs) t (1 + length w.net.arcs + a)) past legal a k b.0 (record { 0 = f }) b.1 b.2 stream in let x = ends_in_bound (number (length w.net.arcs) t (1 + length w.net.arcs + a)) past legal a k f b.0 e lt high b.1 at b.2 in omega (arith, x, due)),
         )
     with_delivery k e at due outcome.Lost es is = subst (Every Timely) (sym is) (tt, tt)
     with_delivery k e at due outcome.Part es is = subst (Every Timely) (sym is) (tt, tt)

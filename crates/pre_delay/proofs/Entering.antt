@@ -1,12 +1,13 @@
 -- Where a ring has room for all that comes to it at a tick, all of it enters.
-use Rattle.std.proofs.Common.{ℕ, suc, Bool, true, false, not, ◌==◌, ◌&&◌, nat_le, nat_lt, ◌≡◌, ◌≢◌, ◌+◌, ◌<◌, ◌≤◌, List, [], ◌∷◌, ◌++◌, length, filter, refl, sym, ◌∙◌, ap, inl, inr, ◌⊎◌, arith, subst, Option, Some, None, length-append}
+use Rattle.std.proofs.Common.{ℕ, suc, Bool, true, false, not, ◌==◌, ◌&&◌, nat_le, nat_lt, ◌≡◌, ◌≢◌, ◌+◌, ◌<◌, ◌≤◌, List, [], ◌∷◌, ◌++◌, length, filter, refl, sym, ◌∙◌, ap, inl, inr, arith, map, subst, Option, Some, None, length-append}
 use Rattle.std.specs.Prelude.{if◌then◌else◌}
+use Rattle.std.specs.Option.{option_map}
 use Rattle.std.specs.List.{list_any, cons_option}
-use Rattle.std.proofs.lemmas.Bool.{cases_lt, cases_Bool}
+use Rattle.std.proofs.lemmas.Bool.{and_parts, cases_Bool}
 use Rattle.std.proofs.lemmas.Bool.Decides.{nat_tests}
 use Rattle.std.proofs.lemmas.List.{append-nil, length-map}
 use Rattle.std.proofs.lemmas.List.Elements.{filter-append, filter_map-append}
-use Rattle.pre_history.specs.Scenario.{Scenario, arc, row, capacity}
+use Rattle.pre_history.specs.Scenario.{Scenario, row, capacity}
 use Rattle.pre_history.specs.History.{PlainEvent, History, Begin}
 use Rattle.pre_history.specs.Selected.{RingEntry, begin_on, entry_on, what_is}
 use Rattle.pre_history.specs.Queries.{Begins, Entries, Waiting, begun_before}
@@ -63,70 +64,82 @@ module _ (w : Scenario) (t : ℕ) where
       let few = filter-length (waits g a t) new in
       omega (arith, left, right, long, few)
 
-  -- all that come to a ring of an express priority have room in it
-  abbrev pub HasRoom : History → List Coming → Type 0
-  HasRoom g cs = (a p : ℕ) → (arc w a).express_from ≤ p → 0 < length (comers w t a p cs) → length (Waiting g a p t) + length (comers w t a p cs) ≤ capacity w a p
-
   other_no : (m n : ℕ) → m ≢ n → (m == n) ≡ false
   other_no m n no' = grind (arith, nat_tests)
-
-  same_yes : (m : ℕ) → (m == m) ≡ true
-  same_yes m = grind (arith, nat_tests)
 
   cons_long : {X : Type 0} (o : Option X) (xs : List X) → length (cons_option o xs) ≡ length (cons_option o []) + length xs
   cons_long None xs = omega arith
   cons_long (Some x) xs = omega arith
 
-  and_no : (b : Bool) → (b && false) ≡ false
-  and_no true = refl
-  and_no false = refl
+  module _ (a p : ℕ) where
+    -- all that come to the ring have room in it
+    abbrev pub HasRoom : History → List Coming → Type 0
+    HasRoom g cs = 0 < length (comers w t a p cs) → length (Waiting g a p t) + length (comers w t a p cs) ≤ capacity w a p
 
-  comes_here : (c : Coming) → as_comer w t c.arc (row w c.frame).prio c ≡ Some (record { tick = t; frame = c.frame; entered = true })
-  comes_here c = ap (λ (x : Bool). if x && ((row w c.frame).prio == (row w c.frame).prio) then Some (record { tick = t; frame = c.frame; entered = true }) else None) (same_yes c.arc)
-      ∙ ap (λ (x : Bool). if x then Some (record { tick = t; frame = c.frame; entered = true }) else None) (same_yes (row w c.frame).prio)
+    abbrev as_entry : Coming → Bool → RingEntry
+    as_entry c b = record { tick = t; frame = c.frame; entered = b }
 
-  -- an event of what comes is its entry, at rings of the express priorities
-  enters_so : (g : History) (c : Coming) (cs : List Coming) → HasRoom g (c ∷ cs) → (a p : ℕ) → (arc w a).express_from ≤ p → entry_on a p (entry_event w t g c) ≡ as_comer w t a p c
-  enters_so g c cs room a p high =
-      elim (cases_lt (row w c.frame).prio (arc w c.arc).express_from) [
-        | inl low ↦
-            let off : ((c.arc == a) && ((row w c.frame).prio == p)) ≡ false = elsewhere low (cases_Bool (c.arc == a)) in
-            split (length (Waiting g c.arc (row w c.frame).prio t) == capacity w c.arc (row w c.frame).prio) ((c.arc == a) && ((row w c.frame).prio == p)) refl off
-        | inr express ↦
-            let here : length (comers w t c.arc (row w c.frame).prio (c ∷ cs)) ≡ suc (length (comers w t c.arc (row w c.frame).prio cs)) = ap (λ o. length (cons_option o (comers w t c.arc (row w c.frame).prio cs))) (comes_here c) in
-            let fits = room c.arc (row w c.frame).prio express (omega (arith, here)) in
-            ap (λ b. entry_on a p (if b then PlainEvent.dropped (entry_for w t c) else PlainEvent.enter (entry_for w t c)))
-            (other_no (length (Waiting g c.arc (row w c.frame).prio t)) (capacity w c.arc (row w c.frame).prio) (λ e. absurd (omega (arith, e, here, fits))))
-      ]
-    where
-      elsewhere : (row w c.frame).prio < (arc w c.arc).express_from → ((c.arc == a) ≡ true) ⊎ ((c.arc == a) ≡ false) → ((c.arc == a) && ((row w c.frame).prio == p)) ≡ false
-      elsewhere low (inr off) = ap (λ x. x && ((row w c.frame).prio == p)) off
-      elsewhere low (inl on) =
-          let arc_is : c.arc ≡ a = grind (arith, nat_tests, on) in
-          let low' : (row w c.frame).prio < (arc w a).express_from = subst (λ x. (row w c.frame).prio < (arc w x).express_from) arc_is low in
-          ap (λ x. (c.arc == a) && x) (other_no (row w c.frame).prio p (λ e. absurd (omega (arith, e, low', high)))) ∙ and_no (c.arc == a)
+    abbrev event_of : Coming → Bool → PlainEvent
+    event_of c full = if full then PlainEvent.dropped (entry_for w t c) else PlainEvent.enter (entry_for w t c)
 
-      as_entry : Bool → RingEntry
-      as_entry b = record { tick = t; frame = c.frame; entered = b }
+    elsewhere : (c : Coming) (full : Bool) → ((c.arc == a) && ((row w c.frame).prio == p)) ≡ false → entry_on a p (event_of c full) ≡ as_comer w t a p c
+    elsewhere c true off = ap (λ b. if b then Some (as_entry c false) else None) off ∙ sym (ap (λ b. if b then Some (as_entry c true) else None) off)
+    elsewhere c false off = refl
 
-      split : (full x : Bool) → ((c.arc == a) && ((row w c.frame).prio == p)) ≡ x → x ≡ false → entry_on a p (if full then PlainEvent.dropped (entry_for w t c) else PlainEvent.enter (entry_for w t c)) ≡ as_comer w t a p c
-      split true x is off =
-          let none : entry_on a p (PlainEvent.dropped (entry_for w t c)) ≡ None = ap (λ b. if b then Some (as_entry false) else None) (is ∙ off) in
-          let none' : as_comer w t a p c ≡ None = ap (λ b. if b then Some (as_entry true) else None) (is ∙ off) in
-          none ∙ sym none'
-      split false x is off = refl
+    -- an event of what comes is its entry
+    enters_so : (g : History) (c : Coming) (cs : List Coming) → HasRoom g (c ∷ cs) → entry_on a p (entry_event w t g c) ≡ as_comer w t a p c
+    enters_so g c cs room =
+        elim (cases_Bool ((c.arc == a) && ((row w c.frame).prio == p))) [
+          | inr off ↦ elsewhere c (length (Waiting g c.arc (row w c.frame).prio t) == capacity w c.arc (row w c.frame).prio) off
+          | inl on ↦
+              let here : length (comers w t a p (c ∷ cs)) ≡ suc (length (comers w t a p cs)) = ap (λ b. length (cons_option (if b then Some (as_entry c true) else None) (comers w t a p cs))) on in
+              let fits = room (omega (arith, here)) in
+              ap (λ b. entry_on a p (event_of c b)) (other_no (length (Waiting g c.arc (row w c.frame).prio t)) (capacity w c.arc (row w c.frame).prio) (λ e.
+              let full = moved g c on e in absurd (omega (arith, full, here, fits))))
+        ]
+      where
+        moved : (g : History) (c : Coming) → ((c.arc == a) && ((row w c.frame).prio == p)) ≡ true → length (Waiting g c.arc (row w c.frame).prio t) ≡ capacity w c.arc (row w c.frame).prio → length (Waiting g a p t) ≡ capacity w a p
+        moved g c on e =
+            let parts = and_parts (c.arc == a) ((row w c.frame).prio == p) on in
+            let arc_is : c.arc ≡ a = grind (arith, nat_tests, parts.0) in
+            let prio_is : (row w c.frame).prio ≡ p = grind (arith, nat_tests, parts.1) in
+            subst (λ q. length (Waiting g a q t) ≡ capacity w a q) prio_is (subst (λ x. length (Waiting g x (row w c.frame).prio t) ≡ capacity w x (row w c.frame).prio) arc_is e)
 
-  -- All of it enters.
-  pub all_enter : (g : History) (cs : List Coming) → HasRoom g cs → (a p : ℕ) → (arc w a).express_from ≤ p → Entries (EntriesOf w t g cs) a p ≡ comers w t a p cs
-  all_enter g [] room a p high = refl
-  all_enter g (c ∷ cs) room a p high =
-      let rest = all_enter (g ++ entry_event w t g c ∷ []) cs (more g c cs room) a p high in
-      ap (λ o. cons_option o (Entries (EntriesOf w t (g ++ entry_event w t g c ∷ []) cs) a p)) (enters_so g c cs room a p high) ∙ ap (λ rs. cons_option (as_comer w t a p c) rs) rest
-    where
-      more : (g : History) (c : Coming) (cs : List Coming) → HasRoom g (c ∷ cs) → HasRoom (g ++ entry_event w t g c ∷ []) cs
-      more g c cs room b q high' some =
-          let long = cons_long (as_comer w t b q c) (comers w t b q cs) in
-          let fits = room b q high' (omega (arith, long, some)) in
-          let one = one_more g b q c in
-          let same = ap (λ o. length (cons_option o [])) (enters_so g c cs room b q high') in
-          omega (arith, long, fits, one, same)
+    -- All of it enters.
+    pub all_enter : (g : History) (cs : List Coming) → HasRoom g cs → Entries (EntriesOf w t g cs) a p ≡ comers w t a p cs
+    all_enter g [] room = refl
+    all_enter g (c ∷ cs) room =
+        let rest = all_enter (g ++ entry_event w t g c ∷ []) cs (more g c cs room) in
+        ap (λ o. cons_option o (Entries (EntriesOf w t (g ++ entry_event w t g c ∷ []) cs) a p)) (enters_so g c cs room) ∙ ap (λ rs. cons_option (as_comer w t a p c) rs) rest
+      where
+        more : (g : History) (c : Coming) (cs : List Coming) → HasRoom g (c ∷ cs) → HasRoom (g ++ entry_event w t g c ∷ []) cs
+        more g c cs room some =
+            let long = cons_long (as_comer w t a p c) (comers w t a p cs) in
+            let fits = room (omega (arith, long, some)) in
+            let one = one_more g a p c in
+            let same = ap (λ o. length (cons_option o [])) (enters_so g c cs room) in
+            omega (arith, long, fits, one, same)
+
+    -- What comes to the ring is told of it, whether it enters or is dropped.
+    abbrev pub entering : RingEntry → RingEntry
+    entering r = record { tick = r.tick; frame = r.frame; entered = true }
+
+    told_one : (c : Coming) (full : Bool) → option_map entering (entry_on a p (event_of c full)) ≡ as_comer w t a p c
+    told_one c full = go full ((c.arc == a) && ((row w c.frame).prio == p)) refl
+      where
+        go : (full b : Bool) → ((c.arc == a) && ((row w c.frame).prio == p)) ≡ b → option_map entering (entry_on a p (event_of c full)) ≡ as_comer w t a p c
+        go true true on = ap (λ b. option_map entering (if b then Some (as_entry c false) else None)) on ∙ sym (ap (λ b. if b then Some (as_entry c true) else None) on)
+        go true false off = ap (λ b. option_map entering (if b then Some (as_entry c false) else None)) off ∙ sym (ap (λ b. if b then Some (as_entry c true) else None) off)
+        go false true on = ap (λ b. option_map entering (if b then Some (as_entry c true) else None)) on ∙ sym (ap (λ b. if b then Some (as_entry c true) else None) on)
+        go false false off = ap (λ b. option_map entering (if b then Some (as_entry c true) else None)) off ∙ sym (ap (λ b. if b then Some (as_entry c true) else None) off)
+
+    map_cons : (o : Option RingEntry) (rs : List RingEntry) → map entering (cons_option o rs) ≡ cons_option (option_map entering o) (map entering rs)
+    map_cons None rs = refl
+    map_cons (Some r) rs = refl
+
+    pub told_entries : (g : History) (cs : List Coming) → map entering (Entries (EntriesOf w t g cs) a p) ≡ comers w t a p cs
+    told_entries g [] = refl
+    told_entries g (c ∷ cs) =
+        map_cons (entry_on a p (entry_event w t g c)) (Entries (EntriesOf w t (g ++ entry_event w t g c ∷ []) cs) a p)
+        ∙ (ap (λ o. cons_option o (map entering (Entries (EntriesOf w t (g ++ entry_event w t g c ∷ []) cs) a p))) (told_one c (length (Waiting g c.arc (row w c.frame).prio t) == capacity w c.arc (row w c.frame).prio))
+        ∙ ap (λ rs. cons_option (as_comer w t a p c) rs) (told_entries (g ++ entry_event w t g c ∷ []) cs))

@@ -1,25 +1,29 @@
--- A finished run has its closing events behind a legal history.
-use Rattle.std.proofs.Common.{ℕ, zero, suc, Bool, true, false, ◌==◌, ◌&&◌, ◌≡◌, ◌+◌, [], ◌∷◌, ◌++◌, length, refl, sym, ◌∙◌, ap, arith, subst, Option, None}
-use Rattle.std.specs.Prelude.{slice_get, if◌then◌else◌, All, IsTrue, IsFalse, filter_map}
-use Rattle.std.specs.List.{AllByRecursion as Every}
+-- All of a run is timely, also with its closing events.
+use Rattle.std.proofs.Common.{ℕ, zero, suc, Bool, true, false, ◌==◌, ◌&&◌, not, nat_le, nat_lt, ◌≡◌, ◌+◌, ◌<◌, ◌≤◌, [], ◌∷◌, ◌++◌, length, filter, map, refl, sym, ◌∙◌, ap, arith, subst, Option, None}
+use Rattle.std.specs.Prelude.{slice_get, if◌then◌else◌, All, Any, IsTrue, IsFalse, filter_map, sum_by}
+use Rattle.std.specs.List.{list_any, AllByRecursion as Every}
 use Rattle.std.proofs.lemmas.List.Elements.{filter_map-append}
 use Rattle.std.proofs.lemmas.List.{append_assoc}
-use Rattle.pre_history.specs.Scenario.{Scenario}
-use Rattle.pre_history.specs.History.{PlainEvent, History, Begin, Counts}
+use Rattle.pre_history.specs.Scenario.{Scenario, FrameOf}
+use Rattle.pre_history.specs.Moments.{moments}
+use Rattle.pre_history.specs.History.{PlainEvent, History, Begin, Counts, Delivery}
 use Rattle.pre_history.specs.Selected.{RingEntry, begin_on, entry_on, delivery_of, what_is}
-use Rattle.pre_history.specs.Queries.{Begins, Entries, Deliveries}
+use Rattle.pre_history.specs.Queries.{Begins, Entries, Deliveries, Waiting, begun_before}
 use Rattle.pre_history.specs.Octets.{names_loss, names_damage}
 use Rattle.pre_history.specs.Placed.{number}
 use Rattle.pre_history.specs.Legal.{Legal, LegalUpTo, CountLines, Spared, count_line, closing, last_moment}
 use Rattle.pre_history.proofs.Lists.{every-append, every_weaker, none_selected, no_append}
+use Rattle.pre_bound.specs.Uses.{has_port, rate_of}
 use Rattle.pre_bound.specs.Values.{Values}
 use Rattle.pre_bound.specs.Good.{AreGood}
-use Rattle.pre_delay.specs.Ports.{IsOnTime}
+use Rattle.pre_delay.specs.Ports.{IsOnTime, PortIsTimely, wire_of}
 use Rattle.pre_delay.specs.Runs.{IsRun}
-use Rattle.pre_delay.specs.Whole.{KeepsBounds}
-use Rattle.pre_delay.proofs.Whole.{obey_and_enter, all_on_time}
+use Rattle.pre_delay.specs.Timely.{Timely}
+use Rattle.pre_delay.proofs.Bursts.{ListObeys}
+use Rattle.pre_delay.proofs.OnePort.{timely}
+use Rattle.pre_delay.proofs.Network.{all_obey, port_obeys}
 use Rattle.pre_delay.proofs.Delivered.{deliveries_in_bound}
-use Rattle.pre_delay.proofs.Arrives.{spared_are_delivered}
+use Rattle.pre_delay.proofs.Arrives.{spared_arrive}
 
 abbrev IsClosing : PlainEvent → Type 0
 IsClosing (PlainEvent.count a c) = Unit {0}
@@ -85,44 +89,62 @@ same_selected sel body end none closed =
     filter_map-append sel body end ∙ no_append (filter_map sel body) (filter_map sel end) (none_selected sel end (every_weaker IsClosing (λ e. sel e ≡ None) none end closed))
 
 -- what holds of the legal history holds with its closing events
-closed_too : (w : Scenario) (v : Values) (body end : History) → IsRun w → AreGood w.net w.streams.rows v → LegalUpTo w (number (length w.net.arcs) (w.script.until.0 + 1) 0) body → Every IsClosing end → KeepsBounds w v (body ++ end)
-closed_too w v body end run good legal closed =
-    let A = length w.net.arcs in
-    let N = number A (w.script.until.0 + 1) 0 in
-    record {
-      entered = λ a p high. subst (Every (λ (r : RingEntry). r.entered ≡ true)) (sym (entries a p)) ((obey_and_enter w v run good N body legal).1 a p high);
-      ports = λ a p j r high at before.
-          on_time a p r (all_on_time w v run good N body (w.script.until.0 + 1) legal (omega arith) (omega arith) a p j r high (ap (λ xs. slice_get xs j) (sym (entries a p)) ∙ at) (omega (arith, before)));
-      bound = λ j d at high. deliveries_in_bound w v run good N body legal j d (ap (λ xs. slice_get xs j) (sym deliveries) ∙ at) high;
-      spared = λ f known high spared time.
-          let o = spared_are_delivered w v N body (w.script.until.0 + 1) run good legal (omega arith) (omega arith) f known high (spared_before f spared) (omega (arith, time)) in
-          (o.0, o.1, ap (λ xs. slice_get xs o.0) deliveries ∙ o.2, o.3);
-    }
+module _ (w : Scenario) (v : Values) (body end : History) (done : ℕ) (closed : Every IsClosing end) (t : Timely w body done v) where
+  begins : (a : ℕ) → Begins (body ++ end) a ≡ Begins body a
+  begins a = same_selected (begin_on a) body end (no_begin a) closed
+
+  entries : (a p : ℕ) → Entries (body ++ end) a p ≡ Entries body a p
+  entries a p = same_selected (entry_on a p) body end (no_entry a p) closed
+
+  deliveries : Deliveries (body ++ end) ≡ Deliveries body
+  deliveries = same_selected delivery_of body end no_delivery closed
+
+  waiting : (a p x : ℕ) → Waiting (body ++ end) a p x ≡ Waiting body a p x
+  unfolding Waiting
+  waiting a p x =
+      ap (λ es. map (λ (e : RingEntry). e.frame) (filter (λ e. e.entered && nat_le e.tick x && not (begun_before (body ++ end) a x e.frame)) es)) (entries a p)
+      ∙ ap (λ bs. map (λ (e : RingEntry). e.frame) (filter (λ e. e.entered && nat_le e.tick x && not (list_any (λ (b : Begin). nat_lt b.tick x && what_is b.what e.frame && (b.from == 0)) bs)) (Entries body a p))) (begins a)
+
+  spared_before : (f : ℕ) → Spared w (body ++ end) f → Spared w body f
+  spared_before f spared a =
+      subst (λ bs. All (λ (b : Begin). IsTrue (what_is b.what f) → All (λ l. IsFalse (names_loss b l)) w.script.losses × All (λ d. IsFalse (names_damage b d)) w.script.damages) bs) (begins a) (spared a)
+
+  on_time : (a p : ℕ) (r : RingEntry) → IsOnTime w body a done (v.delay a p) r → IsOnTime w (body ++ end) a done (v.delay a p) r
+  on_time a p r o = record {
+    left = λ i b at. o.left i b (ap (λ bs. slice_get bs i) (sym (begins a)) ∙ at);
+    begun = λ late. let x = o.begun late in (x.0, x.1, ap (λ bs. slice_get bs x.0) (begins a) ∙ x.2, x.3);
+  }
+
+  closed_too : Timely w (body ++ end) done v
+  closed_too = record {
+    entries_obey = λ i r at stream hop a here. subst (λ rs. ListObeys w rs i (v.burst i hop) (rate_of r)) (sym (entries a r.prio)) (t.entries_obey i r at stream hop a here);
+    begun_in_time = λ a p j r has at. on_time a p r (t.begun_in_time a p j r has (ap (λ xs. slice_get xs j) (sym (entries a p)) ∙ at));
+    queue_within_size = λ a p x has less. subst (λ fs. sum_by (wire_of w) fs ≤ v.size a p) (sym (waiting a p x)) (t.queue_within_size a p x has less);
+    none_dropped = λ a p has. subst (Every (λ (r : RingEntry). r.entered ≡ true)) (sym (entries a p)) (t.none_dropped a p has);
+    delivered_in_bound = λ j d at. t.delivered_in_bound j d (ap (λ xs. slice_get xs j) (sym deliveries) ∙ at);
+    spared_arrive = λ f known stream spared over. subst (λ ds. Any (λ (d : Delivery). (d.frame ≡ f) × (d.octets ≡ FrameOf w f)) ds) (sym deliveries) (t.spared_arrive f known stream (spared_before f spared) over);
+  }
+
+-- In each legal history that goes up to a moment of a tick all is timely.
+pub timely_at : (w : Scenario) (v : Values) → IsRun w → AreGood w.net w.streams.rows v → (n : ℕ) (h : History) (t k : ℕ) → k < moments (length w.net.arcs) → n ≡ number (length w.net.arcs) t k → LegalUpTo w n h → Timely w h t v
+timely_at w v run good n h t k k_lt n_is legal = record {
+  entries_obey = all_obey w v run good n h legal;
+  begun_in_time = λ a p j r has at. (here a p has).begun_in_time j r at;
+  queue_within_size = λ a p x has less. (here a p has).queue_within_size x less;
+  none_dropped = λ a p has. (here a p has).none_dropped;
+  delivered_in_bound = deliveries_in_bound w v run good n h legal;
+  spared_arrive = spared_arrive w v run good n h t k legal k_lt n_is;
+}
   where
-    begins : (a : ℕ) → Begins (body ++ end) a ≡ Begins body a
-    begins a = same_selected (begin_on a) body end (no_begin a) closed
+    here : (a p : ℕ) → has_port w.streams.rows a p ≡ true → PortIsTimely w h t v a p
+    here a p has = timely w v run good a p has n h t k k_lt n_is legal (port_obeys w v run good h a p (all_obey w v run good n h legal))
 
-    entries : (a p : ℕ) → Entries (body ++ end) a p ≡ Entries body a p
-    entries a p = same_selected (entry_on a p) body end (no_entry a p) closed
-
-    deliveries : Deliveries (body ++ end) ≡ Deliveries body
-    deliveries = same_selected delivery_of body end no_delivery closed
-
-    spared_before : (f : ℕ) → Spared w (body ++ end) f → Spared w body f
-    spared_before f spared a =
-        subst (λ bs. All (λ (b : Begin). IsTrue (what_is b.what f) → All (λ l. IsFalse (names_loss b l)) w.script.losses × All (λ d. IsFalse (names_damage b d)) w.script.damages) bs) (begins a) (spared a)
-
-    on_time : (a p : ℕ) (r : RingEntry) → IsOnTime w body a (w.script.until.0 + 1) (v.delay a p) r → IsOnTime w (body ++ end) a (w.script.until.0 + 1) (v.delay a p) r
-    on_time a p r o = record {
-      left = λ i b at. o.left i b (ap (λ bs. slice_get bs i) (sym (begins a)) ∙ at);
-      begun = λ late. let x = o.begun late in (x.0, x.1, ap (λ bs. slice_get bs x.0) (begins a) ∙ x.2, x.3);
-    }
-
--- A good certificate keeps its word in each legal history.
-pub keeps_bounds : (w : Scenario) (v : Values) (h : History) → IsRun w → AreGood w.net w.streams.rows v → Legal w h → KeepsBounds w v h
-keeps_bounds w v h run good (body, counts, before, lines, is) =
+-- And in each that is legal up to its end.
+pub timely_at_end : (w : Scenario) (v : Values) (h : History) → IsRun w → AreGood w.net w.streams.rows v → Legal w h → Timely w h (w.script.until.0 + 1) v
+timely_at_end w v h run good (body, counts, before, lines, is) =
     let same : last_moment w ≡ number (length w.net.arcs) (w.script.until.0 + 1) 0 = omega arith in
     let end : History = PlainEvent.end (closing w body) ∷ [] in
     let joined : h ≡ body ++ (counts ++ end) = is ∙ append_assoc body counts end in
-    subst (KeepsBounds w v) (sym joined)
-    (closed_too w v body (counts ++ end) run good (subst (λ m. LegalUpTo w m body) same before.0) (every-append IsClosing counts end (counts_closing w body (length w.net.arcs) counts lines) (tt, tt)))
+    subst (λ x. Timely w x (w.script.until.0 + 1) v) (sym joined)
+    (closed_too w v body (counts ++ end) (w.script.until.0 + 1) (every-append IsClosing counts end (counts_closing w body (length w.net.arcs) counts lines) (tt, tt))
+    (timely_at w v run good (last_moment w) body (w.script.until.0 + 1) 0 (omega arith) same before.0))

@@ -38,15 +38,16 @@ use Rattle.pre_bound.specs.Values.{Values}
 use Rattle.pre_bound.specs.Clauses.{Block, Largest}
 use Rattle.pre_bound.proofs.Hops.{contains_at}
 use Rattle.pre_laws.proofs.Begun.{by_item, choice_of}
-use Rattle.pre_delay.specs.Ports.{IsKnown, stream_of}
-use Rattle.pre_delay.specs.Arcs.{Mine, WaitsAt, MineWaits}
+use Rattle.pre_delay.specs.Ports.{stream_of}
+use Rattle.pre_delay.proofs.Port.{IsKnown}
+use Rattle.pre_delay.proofs.Arcs.{Mine, WaitsAt, MineWaits}
 use Rattle.pre_delay.proofs.Blockers.{fragment_blocks}
 use Rattle.pre_delay.proofs.Rings.{front_of_ring, ring_waits}
 use Rattle.pre_delay.proofs.Sent.{front_prio, rest_prio}
 use Rattle.pre_delay.proofs.Seen.{traffic, as_sent, size_of, sized, rank_of, wire-is, entry-waits, from-queue, from-above, ranked_mine}
 
 module _ (w : Scenario) (n : ℕ) (h : History) (a p done : ℕ) (lt : a < length w.net.arcs) (legal : LegalUpTo w n h) (high : (arc w a).express_from ≤ p) (top : p < 8)
-    (from_reach : number (length w.net.arcs) done 0 ≤ n) (to_reach : n ≤ number (length w.net.arcs) done (2 + 3 * length w.net.arcs))
+    (from_reach : (x : ℕ) → x < done → number (length w.net.arcs) x (2 + 3 * length w.net.arcs + a) < n) (to_reach : (x : ℕ) → number (length w.net.arcs) x (2 + 3 * length w.net.arcs + a) < n → x < done)
     (few : length w.net.arcs ≤ 65536) (known : (q j : ℕ) (r : RingEntry) → slice_get (Entries h a q) j ≡ Some r → r.entered ≡ true → IsKnown w a r.frame)
     (carried : (i : ℕ) (b : Begin) (f : FrameNo) → slice_get (Begins h a) i ≡ Some b → b.what ≡ what.Frame f → IsKnown w a f.0)
     (v : Values) (clause : Block w.net w.streams.rows v a p) (largest : Largest w.net w.streams.rows v a) where

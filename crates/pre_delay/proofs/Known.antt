@@ -28,7 +28,8 @@ use Rattle.pre_bound.specs.Uses.{is_stream, hop_of, TakesAt}
 use Rattle.pre_bound.proofs.Hops.{takes-from, TakesAt-hop_of, TakesAt-place}
 use Rattle.pre_laws.specs.Routed.{IsOnRoute, IsRouted}
 use Rattle.pre_laws.proofs.Routed.{BegunRight, all_right, begins_right, comes_right}
-use Rattle.pre_delay.specs.Ports.{stream_of, IsKnown}
+use Rattle.pre_delay.specs.Ports.{stream_of}
+use Rattle.pre_delay.proofs.Port.{IsKnown}
 use Rattle.pre_delay.specs.Runs.{IsRun, sends_of}
 use Rattle.pre_streams.specs.Fits.{Fits as StreamsFit}
 use Rattle.pre_script.specs.Fits.{Fits as ScriptFits}

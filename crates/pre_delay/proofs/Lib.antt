@@ -1,3 +1,5 @@
+pub mod Arcs
+pub mod Port
 pub mod Periods
 pub mod Blockers
 pub mod Lists
@@ -20,8 +22,9 @@ pub mod Known
 pub mod Apart
 pub mod Bursts
 pub mod Entering
-pub mod Whole
+pub mod OnePort
+pub mod Network
 pub mod Delivered
-pub mod Reached
 pub mod Arrives
 pub mod Finished
+pub mod Reached

@@ -24,7 +24,7 @@ use Rattle.pre_history.proofs.Relays.{ComesBy, IsSent, IsRelayed, comes_later, c
 use Rattle.pre_history.proofs.Steady.{costs}
 use Rattle.pre_history.proofs.InOrder.{steady}
 use Rattle.pre_history.proofs.Chosen.{into_map}
-use Rattle.pre_delay.specs.Arcs.{Served, InLine}
+use Rattle.pre_delay.proofs.Arcs.{Served, InLine}
 use Rattle.pre_delay.proofs.Rings.{front_of_ring, entries_prio}
 use Rattle.pre_history.proofs.Routes.{one_before, not_first}
 use Rattle.pre_delay.proofs.Sent.{express_begins}

@@ -10,7 +10,7 @@ use Rattle.pre_history.specs.Read.{IsTold}
 use Rattle.pre_history.proofs.Lists.{found_at}
 use Rattle.pre_history.proofs.NatTests.{is_eq}
 use Rattle.pre_laws.specs.Routed.{IsEntry}
-use Rattle.pre_delay.specs.Arcs.{Some_of}
+use Rattle.pre_delay.proofs.Arcs.{Some_of}
 
 some_cons : {X : Type 0} (P : X → Type 0) (o : Option X) (xs : List X) → Some_of P xs → Some_of P (cons_option o xs)
 some_cons P None xs some = some

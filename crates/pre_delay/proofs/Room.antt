@@ -5,6 +5,7 @@ use Rattle.std.specs.List.{AllByRecursion as Every, enumerate_from}
 use Rattle.std.proofs.Math.Nat.{mul-le-mul_right}
 use Rattle.std.proofs.lemmas.Bool.{and_parts, leb-true}
 use Rattle.std.proofs.lemmas.List.Sums.{sum_by-cons}
+use Rattle.std.proofs.lemmas.List.{append-nil}
 use Rattle.pre_streams.specs.declared.rows.Row.{Row}
 use Rattle.pre_history.specs.Scenario.{Scenario, arc, row}
 use Rattle.pre_history.specs.History.{History}
@@ -17,8 +18,9 @@ use Rattle.pre_bound.specs.Clauses.{certified_bursts, Size, Ring}
 use Rattle.pre_bound.proofs.Sums.{sums_ge}
 use Rattle.pre_bound.proofs.Hops.{is_on-from}
 use Rattle.pre_delay.specs.Ticks.{is_from_to}
-use Rattle.pre_delay.specs.Ports.{stream_of, wire, IsKnown, IsPort, ComesTo}
-use Rattle.pre_delay.specs.Arcs.{Queued, Some_of, BegunBefore, Mine, entered_from_to}
+use Rattle.pre_delay.specs.Ports.{stream_of, wire, wire_of, waiting_octets}
+use Rattle.pre_delay.proofs.Port.{IsKnown, IsPort, ComesTo}
+use Rattle.pre_delay.proofs.Arcs.{Queued, Some_of, BegunBefore, Mine, entered_from_to}
 use Rattle.pre_delay.proofs.Shares.{several}
 use Rattle.pre_delay.proofs.Members.{every-filter, every-weaker}
 use Rattle.pre_delay.proofs.Periods.{frames_within}
@@ -111,42 +113,89 @@ unsent w n h a p done v port x f fresh begun =
     let yes' = some-begun h a x f m.0 m.1 m.2 m.3.0 on o.2.from in
     absurd (cc (yes', fresh))
 
-pub have_room : (w : Scenario) (n : ℕ) (h : History) (a p done : ℕ) (v : Values) → IsPort w n h a p done v → Size w.streams.rows v a p → Ring w.net v a p
-    → ((j : ℕ) (r : RingEntry) → slice_get (Entries h a p) j ≡ Some r → r.entered ≡ true → begun_before h a r.tick r.frame ≡ false)
-    → (comers : List RingEntry) → Every (ComesTo w a p done) comers
-    → ((i : ℕ) (r : Row) → slice_get w.streams.rows i ≡ Some r → is_on a p (p + 1) r ≡ true → (from to : ℕ) → from ≤ to
-    → 1_000_000 * sum_by (wire w) (filter (λ r. is_from_to from to r.tick && (stream_of w r.frame == i)) (Entries h a p ++ comers)) ≤ 1_000_000 * v.burst i (hop_of a r) + rate_of r * (to - from))
-    → length (Waiting h a p done) + length comers ≤ ring_at w.net a p
-unfolding Waiting
-have_room w n h a p done v port size ring fresh comers come obeys =
-    let l = traffic w h a p in
-    let E = Entries h a p in
-    let waiting = λ (q : Queued). nat_le q.tick done && not (begun_before h a done q.frame) in
-    let least : Every (λ q. 84 ≤ q.octets) (queued w h a p) = every-queue w h a p (λ q. 84 ≤ q.octets) (λ j r at entered. let k = port.known p j r at entered in omega (arith, k.least)) in
-    let facts = every-append (λ (r : RingEntry). r.entered ≡ true → IsKnown w a r.frame × (p ≡ (row w r.frame).prio)) E comers
-    (every_placed (λ (r : RingEntry). r.entered ≡ true → IsKnown w a r.frame × (p ≡ (row w r.frame).prio)) E
-    (λ j r at entered. (port.known p j r at entered, every_at (λ (y : RingEntry). y.entered ≡ true → p ≡ (row w y.frame).prio) E j r (entries_prio w n h a p port.legal) at entered)))
-    (every_weaker (ComesTo w a p done) (λ (r : RingEntry). r.entered ≡ true → IsKnown w a r.frame × (p ≡ (row w r.frame).prio)) (λ r c entered. (c.known, c.prio)) comers come)
-    in
-    let total = queue_fits l done (v.block a p) (v.work a p) (v.delay a p) (certified_bursts v a p (p + 1) w.streams.rows) (rates_on a p (p + 1) w.streams.rows) (certified_bursts v a (p + 1) 8 w.streams.rows) (rates_on a (p + 1) 8 w.streams.rows)
-    (port_serves w n h a p done v port) (port_covered w n h a p done v port) (port_enters w n h a p done v port)
-    (every-queue w h a p (λ q. ¬ BegunBefore l q.tick q.frame) (λ j r at entered. unsent w n h a p done v port r.tick r.frame (fresh j r at entered))) least
-    (v.size a p) done size (omega arith) (λ q. nat_le q.tick done && not (begun_before h a done q.frame))
-    (λ q e. let parts = and_parts (nat_le q.tick done) (not (begun_before h a done q.frame)) e in (leb-true q.tick done parts.0, unsent w n h a p done v port done q.frame (off (begun_before h a done q.frame) parts.1)))
-    (queue_of w comers) (every-of w (λ q. q.tick ≡ done) comers (every_weaker (ComesTo w a p done) (λ (r : RingEntry). r.entered ≡ true → r.tick ≡ done) (λ r c entered. c.now) comers come))
-    (λ from to le. subst (λ qs. 1_000_000 * entered_from_to from to qs ≤ 1_000_000 * certified_bursts v a p (p + 1) w.streams.rows + rates_on a p (p + 1) w.streams.rows * (to - from)) (queue_of-append w E comers)
-    (entries_obey w a p v (E ++ comers) port.express facts from to (λ i r at on. obeys i r at on from to le)))
-    in
-    let here = count-le (filter (λ (q : Queued). nat_le q.tick done && not (begun_before h a done q.frame)) (queued w h a p))
-    (every-weaker (λ (q : Queued). ((nat_le q.tick done && not (begun_before h a done q.frame)) ≡ true) × (84 ≤ q.octets)) (λ q. 84 ≤ q.octets) (filter (λ (q : Queued). nat_le q.tick done && not (begun_before h a done q.frame)) (queued w h a p)) (λ q both. both.1)
-    (every-filter (λ (q : Queued). 84 ≤ q.octets) (λ q. nat_le q.tick done && not (begun_before h a done q.frame)) (queued w h a p) least)) in
-    let new = count-le (queue_of w comers) (every-of w (λ q. 84 ≤ q.octets) comers (every_weaker (ComesTo w a p done) (λ (r : RingEntry). r.entered ≡ true → 84 ≤ wire w r) (λ r c entered. let k = c.known.least in omega (arith, k)) comers come)) in
-    let long = waiting-count w h a done E in
-    let some = come-count w comers (every_weaker (ComesTo w a p done) (λ (r : RingEntry). r.entered ≡ true) (λ r c. c.entered) comers come) in
-    let fits = frames_within (length (filter (λ (q : Queued). nat_le q.tick done && not (begun_before h a done q.frame)) (queued w h a p)) + length (queue_of w comers))
-    (sum_by (λ (q : Queued). q.octets) (filter (λ q. nat_le q.tick done && not (begun_before h a done q.frame)) (queued w h a p)) + sum_by (λ (q : Queued). q.octets) (queue_of w comers)) (v.size a p) (ring_at w.net a p) (omega (arith, here, new)) total ring in
-    omega (arith, fits, long, some)
-  where
-    off : (b : Bool) → not b ≡ true → b ≡ false
-    off false e = refl
-    off true e = absurd (cc e)
+waiting-sum : (w : Scenario) (h : History) (a t : ℕ) (es : List RingEntry)
+    → sum_by (wire_of w) (map (λ (e : RingEntry). e.frame) (filter (λ e. e.entered && nat_le e.tick t && not (begun_before h a t e.frame)) es))
+    ≡ sum_by (λ (q : Queued). q.octets) (filter (λ (q : Queued). nat_le q.tick t && not (begun_before h a t q.frame)) (queue_of w es))
+waiting-sum w h a t [] = refl
+waiting-sum w h a t (x ∷ es) =
+    let rest = waiting-sum w h a t es in
+    let F = filter (λ (e : RingEntry). e.entered && nat_le e.tick t && not (begun_before h a t e.frame)) es in
+    let W = filter (λ (q : Queued). nat_le q.tick t && not (begun_before h a t q.frame)) (queue_of w es) in
+    elim (x.entered) as (λ b. sum_by (wire_of w) (map (λ (e : RingEntry). e.frame) (cond (b && nat_le x.tick t && not (begun_before h a t x.frame)) (x ∷ F) F))
+    ≡ sum_by (λ (q : Queued). q.octets) (filter (λ (q : Queued). nat_le q.tick t && not (begun_before h a t q.frame)) (map (as_queued w) (cond b (x ∷ filter (λ r. r.entered) es) (filter (λ r. r.entered) es))))) [
+      | true ↦ elim (nat_le x.tick t && not (begun_before h a t x.frame)) as (λ c. sum_by (wire_of w) (map (λ (e : RingEntry). e.frame) (cond c (x ∷ F) F)) ≡ sum_by (λ (q : Queued). q.octets) (cond c (as_queued w x ∷ W) W)) [
+        | true ↦
+            let one = sum_by-cons (wire_of w) x.frame (map (λ (e : RingEntry). e.frame) F) in
+            let two = sum_by-cons (λ (q : Queued). q.octets) (as_queued w x) W in
+            omega (arith, one, two, rest)
+        | false ↦ rest
+      ]
+      | false ↦ rest
+    ]
+
+-- what enters the ring hadn't begun on the arc before
+abbrev pub AreFresh : History → (a p : ℕ) → Type 0
+AreFresh h a p = (j : ℕ) (r : RingEntry) → slice_get (Entries h a p) j ≡ Some r → r.entered ≡ true → begun_before h a r.tick r.frame ≡ false
+
+module _ (w : Scenario) (n : ℕ) (h : History) (a p done : ℕ) (v : Values) (port : IsPort w n h a p done v) (size : Size w.streams.rows v a p) (fresh : AreFresh h a p)
+    (x : ℕ) (by : x ≤ done) where
+  abbrev waiting : Queued → Bool
+  waiting q = nat_le q.tick x && not (begun_before h a x q.frame)
+
+  abbrev waiting_sum : ℕ
+  waiting_sum = sum_by (λ (q : Queued). q.octets) (filter waiting (queued w h a p))
+
+  off : (b : Bool) → not b ≡ true → b ≡ false
+  off false e = refl
+  off true e = absurd (cc e)
+
+  -- what waits at the tick, and what comes to the ring at it, is within the size
+  total : (comers : List RingEntry) → Every (ComesTo w a p x) comers
+      → ((i : ℕ) (r : Row) → slice_get w.streams.rows i ≡ Some r → is_on a p (p + 1) r ≡ true → (from to : ℕ) → from ≤ to
+      → 1_000_000 * sum_by (wire w) (filter (λ r. is_from_to from to r.tick && (stream_of w r.frame == i)) (Entries h a p ++ comers)) ≤ 1_000_000 * v.burst i (hop_of a r) + rate_of r * (to - from))
+      → waiting_sum + sum_by (λ (q : Queued). q.octets) (queue_of w comers) ≤ v.size a p
+  total comers come obeys =
+      let l = traffic w h a p in
+      let E = Entries h a p in
+      let least : Every (λ q. 84 ≤ q.octets) (queued w h a p) = every-queue w h a p (λ q. 84 ≤ q.octets) (λ j r at entered. let k = port.known p j r at entered in omega (arith, k.least)) in
+      let facts = every-append (λ (r : RingEntry). r.entered ≡ true → IsKnown w a r.frame × (p ≡ (row w r.frame).prio)) E comers
+      (every_placed (λ (r : RingEntry). r.entered ≡ true → IsKnown w a r.frame × (p ≡ (row w r.frame).prio)) E
+      (λ j r at entered. (port.known p j r at entered, every_at (λ (y : RingEntry). y.entered ≡ true → p ≡ (row w y.frame).prio) E j r (entries_prio w n h a p port.legal) at entered)))
+      (every_weaker (ComesTo w a p x) (λ (r : RingEntry). r.entered ≡ true → IsKnown w a r.frame × (p ≡ (row w r.frame).prio)) (λ r c entered. (c.known, c.prio)) comers come)
+      in
+      queue_fits l done (v.block a p) (v.work a p) (v.delay a p) (certified_bursts v a p (p + 1) w.streams.rows) (rates_on a p (p + 1) w.streams.rows) (certified_bursts v a (p + 1) 8 w.streams.rows) (rates_on a (p + 1) 8 w.streams.rows)
+      (port_serves w n h a p done v port) (port_covered w n h a p done v port) (port_enters w n h a p done v port)
+      (every-queue w h a p (λ q. ¬ BegunBefore l q.tick q.frame) (λ j r at entered. unsent w n h a p done v port r.tick r.frame (fresh j r at entered))) least
+      (v.size a p) x size by waiting
+      (λ q e. let parts = and_parts (nat_le q.tick x) (not (begun_before h a x q.frame)) e in (leb-true q.tick x parts.0, unsent w n h a p done v port x q.frame (off (begun_before h a x q.frame) parts.1)))
+      (queue_of w comers) (every-of w (λ q. q.tick ≡ x) comers (every_weaker (ComesTo w a p x) (λ (r : RingEntry). r.entered ≡ true → r.tick ≡ x) (λ r c entered. c.now) comers come))
+      (λ from to le. subst (λ qs. 1_000_000 * entered_from_to from to qs ≤ 1_000_000 * certified_bursts v a p (p + 1) w.streams.rows + rates_on a p (p + 1) w.streams.rows * (to - from)) (queue_of-append w E comers)
+      (entries_obey w a p v (E ++ comers) port.express facts from to (λ i r at on. obeys i r at on from to le)))
+
+  -- What waits at a tick is within the size, in octets.
+  pub queue_within : waiting_octets w h a p x ≤ v.size a p
+  unfolding Waiting
+  queue_within =
+      let sum = waiting-sum w h a x (Entries h a p) in
+      let all = total [] tt (λ i r at on. subst (λ rs. (from to : ℕ) → from ≤ to
+      → 1_000_000 * sum_by (wire w) (filter (λ r. is_from_to from to r.tick && (stream_of w r.frame == i)) rs) ≤ 1_000_000 * v.burst i (hop_of a r) + rate_of r * (to - from)) (sym (append-nil (Entries h a p)))
+      (port.obeys p i r (omega arith) at on)) in
+      omega (arith, sum, all)
+
+  -- What waits and what comes has room, in frames.
+  pub have_room : Ring w.net v a p → (comers : List RingEntry) → Every (ComesTo w a p x) comers
+      → ((i : ℕ) (r : Row) → slice_get w.streams.rows i ≡ Some r → is_on a p (p + 1) r ≡ true → (from to : ℕ) → from ≤ to
+      → 1_000_000 * sum_by (wire w) (filter (λ r. is_from_to from to r.tick && (stream_of w r.frame == i)) (Entries h a p ++ comers)) ≤ 1_000_000 * v.burst i (hop_of a r) + rate_of r * (to - from))
+      → length (Waiting h a p x) + length comers ≤ ring_at w.net a p
+  unfolding Waiting
+  have_room ring comers come obeys =
+      let least : Every (λ q. 84 ≤ q.octets) (queued w h a p) = every-queue w h a p (λ q. 84 ≤ q.octets) (λ j r at entered. let k = port.known p j r at entered in omega (arith, k.least)) in
+      let here = count-le (filter waiting (queued w h a p))
+      (every-weaker (λ (q : Queued). (waiting q ≡ true) × (84 ≤ q.octets)) (λ q. 84 ≤ q.octets) (filter waiting (queued w h a p)) (λ q both. both.1)
+      (every-filter (λ (q : Queued). 84 ≤ q.octets) waiting (queued w h a p) least)) in
+      let new = count-le (queue_of w comers) (every-of w (λ q. 84 ≤ q.octets) comers (every_weaker (ComesTo w a p x) (λ (r : RingEntry). r.entered ≡ true → 84 ≤ wire w r) (λ r c entered. let k = c.known.least in omega (arith, k)) comers come)) in
+      let long = waiting-count w h a x (Entries h a p) in
+      let some = come-count w comers (every_weaker (ComesTo w a p x) (λ (r : RingEntry). r.entered ≡ true) (λ r c. c.entered) comers come) in
+      let all = total comers come obeys in
+      let fits = frames_within (length (filter waiting (queued w h a p)) + length (queue_of w comers)) (waiting_sum + sum_by (λ (q : Queued). q.octets) (queue_of w comers)) (v.size a p) (ring_at w.net a p) (omega (arith, here, new)) all ring in
+      omega (arith, fits, long, some)

@@ -12,7 +12,6 @@ use Rattle.pre_history.specs.declared.events.What.{What}
 use Rattle.pre_history.specs.declared.events.What.TheVariants as what
 use Rattle.pre_history.specs.Scenario.{Scenario, arc, row, FrameOf}
 use Rattle.pre_history.specs.History.{Begin, History}
-use Rattle.pre_history.specs.Moments.{moments}
 use Rattle.pre_history.specs.Placed.{number}
 use Rattle.pre_history.specs.Selected.{RingEntry, frame_number, what_is}
 use Rattle.pre_history.specs.Queries.{Packets, packet, end_of, Begins, Ends, Entries, Waiting, Occupied, IsUnderWay, begun_before}
@@ -28,8 +27,7 @@ use Rattle.pre_history.proofs.InOrder.{steady}
 use Rattle.pre_history.proofs.Chosen.{from_map, into_map}
 use Rattle.pre_history.proofs.Placing.{placed, begins_arc}
 use Rattle.pre_history.proofs.Steady.{costs}
-use Rattle.pre_history.proofs.Turns.{tick_lt}
-use Rattle.pre_delay.specs.Arcs.{Served, Queued, Traffic, Some_of, InLine, FreeAt, Mine, BegunBefore, WaitsAt, MineWaits, EnteredFor, Serves}
+use Rattle.pre_delay.proofs.Arcs.{Served, Queued, Traffic, Some_of, InLine, FreeAt, Mine, BegunBefore, WaitsAt, MineWaits, EnteredFor, Serves}
 use Rattle.pre_delay.proofs.Rings.{EntryWaits, front_of_ring, ring_waits, entries_prio}
 use Rattle.pre_delay.proofs.Begun.{express_starts, front_high, has_ended}
 use Rattle.pre_delay.proofs.Sent.{express_begins, FromFront, front_prio}
@@ -260,7 +258,7 @@ sent-line w n h a lt legal = line-from (arc w a).cost (map (as_sent w h) (Begins
         (let product : (arc w a).cost * (size_of w h b.0 + 20) ≡ (arc w a).cost * (e.0.size + 20) = ap (λ k. (arc w a).cost * (k + 20)) one in omega (arith, apart, spans, product)))
 
 module _ (w : Scenario) (n : ℕ) (h : History) (a p done : ℕ) (lt : a < length w.net.arcs) (legal : LegalUpTo w n h) (high : (arc w a).express_from ≤ p) (top : p < 8)
-    (from_reach : number (length w.net.arcs) done 0 ≤ n) (to_reach : n ≤ number (length w.net.arcs) done (2 + 3 * length w.net.arcs)) where
+    (from_reach : (x : ℕ) → x < done → number (length w.net.arcs) x (2 + 3 * length w.net.arcs + a) < n) (to_reach : (x : ℕ) → number (length w.net.arcs) x (2 + 3 * length w.net.arcs + a) < n → x < done) where
   abbrev l : Traffic
   l = traffic w h a p
 
@@ -281,8 +279,7 @@ module _ (w : Scenario) (n : ℕ) (h : History) (a p done : ℕ) (lt : a < lengt
   serves-begun = every-map (as_sent w h) (λ s. s.begin < done) (Begins h a) (λ i b at.
       let A = length w.net.arcs in
       let before = every_at (λ (x : Begin). (x.arc ≡ a) × (number A x.tick (2 + 3 * A + a) < n)) (Begins h a) i b (begins_before A n a h (placed w n h legal)) at in
-      let less = tick_lt (moments A) b.tick done (2 + 3 * A) (omega (arith, before.1)) in
-      omega arith)
+      to_reach b.tick before.1)
 
   serves-line : InLine l.cost l.served
   serves-line = sent-line w n h a lt legal
@@ -302,8 +299,8 @@ module _ (w : Scenario) (n : ℕ) (h : History) (a p done : ℕ) (lt : a < lengt
       ]
       in
       let soon : b.tick + (arc w a).cost * (size_of w h b + 8) < done = omega (arith, over) in
-      let moment = earlier_tick (moments (length w.net.arcs)) (b.tick + (arc w a).cost * (size_of w h b + 8)) done (1 + a) (omega arith) (omega (arith, lt)) in
-      let ended = has_ended w n h a i (size_of w h b) b lt legal back.1 (sized w h b b.kind).1 (omega (arith, moment, from_reach)) in
+      let told = from_reach (b.tick + (arc w a).cost * (size_of w h b + 8)) soon in
+      let ended = has_ended w n h a i (size_of w h b) b lt legal back.1 (sized w h b b.kind).1 (omega (arith, told)) in
       let e = there (Ends h a) i ended in
       let spans = o.spans i b e.0 back.1 e.1 in
       let one : size_of w h b ≡ e.0.size = size_one w h b.kind b (size_of w h b) e.0.size (sized w h b b.kind).1 ((steady w n h a lt legal).sizes i b e.0 back.1 e.1) in
@@ -412,8 +409,7 @@ module _ (w : Scenario) (n : ℕ) (h : History) (a p done : ℕ) (lt : a < lengt
   -- where a ring of mine isn't empty one of mine begins
   begins-from : (x q : ℕ) → x < done → p ≤ q → q < 8 → FreeAt l.cost l.served x → Waiting h a q x ≢ [] → Some_of (λ s. (s.begin ≡ x) × Mine l s) l.served
   begins-from x q le from below free some =
-      let moment = earlier_tick (moments (length w.net.arcs)) x done (2 + 3 * length w.net.arcs + a) (omega arith) (omega (arith, lt)) in
-      let o = express_starts w n h a x q lt legal (omega (arith, moment, from_reach)) (free-occupied x le free) (omega arith) below some in
+      let o = express_starts w n h a x q lt legal (from_reach x le) (free-occupied x le free) (omega arith) below some in
       let b = o.2.1 in
       let front = o.1 in
       let prio : front.0 ≡ (row w o.0).prio = front_prio w n h a front.0 x o.0 front.3.0 legal front.3.1 in

@@ -3,4 +3,4 @@
 
 mod laws;
 
-pub use laws::{certificates_hold, certified_ports, files_make_a_run, runs_are_on_time};
+pub use laws::{files_make_a_run, growth_law, network_law, port_law};
