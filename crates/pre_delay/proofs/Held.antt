@@ -41,7 +41,7 @@ use Rattle.pre_laws.proofs.Begun.{by_item, choice_of}
 use Rattle.pre_delay.specs.Ports.{stream_of}
 use Rattle.pre_delay.proofs.Port.{IsKnown}
 use Rattle.pre_delay.proofs.Arcs.{Mine, WaitsAt, MineWaits}
-use Rattle.pre_delay.proofs.Blockers.{fragment_blocks}
+use Rattle.pre_delay.proofs.Blockers.{fragment_blocks, fragment_within}
 use Rattle.pre_delay.proofs.Rings.{front_of_ring, ring_waits}
 use Rattle.pre_delay.proofs.Sent.{front_prio, rest_prio}
 use Rattle.pre_delay.proofs.Seen.{traffic, as_sent, size_of, sized, rank_of, wire-is, entry-waits, from-queue, from-above, ranked_mine}
@@ -127,8 +127,7 @@ module _ (w : Scenario) (n : ℕ) (h : History) (a p done : ℕ) (lt : a < lengt
 
   -- a fragment is within its frame
   cut-least : (b : Begin) (size : ℕ) → CutRule (ExpressWaits w h b.arc) (begun w h b) size → size ≤ length (FrameOf w (frame_number b.what))
-  cut-least b size (inl (d, (least', room, waits), first, is)) = omega (arith, room, is)
-  cut-least b size (inr (none, is)) = omega (arith, is)
+  cut-least b size rule = let short = fragment_within (ExpressWaits w h b.arc) (begun w h b) size rule in omega (arith, short)
 
   -- it ends within the greatest time of a fragment that can't be cut
   cut-soon : (b : Begin) (u : ℕ) → b.arc ≡ a → b.tick < u → CutRule (ExpressWaits w h b.arc) (begun w h b) (size_of w h b)

@@ -1,7 +1,8 @@
-ghost use Rattle.std.specs.Prelude.{◌≡◌, ℕ, ◌≤◌, ◌<◌, ◌+◌, ◌*◌, length, slice_get, Some, true};
-ghost use Rattle.pre_history.specs.History.{History};
+ghost use Rattle.std.specs.Prelude.{◌≡◌, ℕ, ◌≤◌, ◌<◌, ◌+◌, ◌-◌, ◌*◌, List, filter, max, slice_get, sum_by, Some, true};
+ghost use Rattle.pre_history.specs.History.{Begin, History};
 ghost use Rattle.pre_history.specs.Legal.{Legal, LegalUpTo};
-ghost use Rattle.pre_history.specs.Scenario.{Scenario};
+ghost use Rattle.pre_history.specs.Scenario.{Scenario, arc};
+ghost use Rattle.pre_history.specs.Starts.{ExpressWaits, begun};
 ghost use Rattle.pre_history.specs.Cuts.{IsCut};
 ghost use Rattle.pre_history.specs.Moments.{Phase};
 ghost use Rattle.pre_history.specs.Placed.{moment_of};
@@ -11,7 +12,11 @@ ghost use Rattle.pre_streams.specs.declared.rows.Row.{Row};
 ghost use Rattle.pre_streams.specs.Fits.{Fits as StreamsFit};
 ghost use Rattle.pre_script.specs.Fits.{Fits as ScriptFits};
 ghost use Rattle.pre_curve.specs.declared.curves.Curve.{Curve};
-ghost use Rattle.pre_curve.specs.Windows.{Obeys, offers_of};
+ghost use Rattle.pre_curve.specs.Windows.{InOrder, Obeys, Offer, offers_of};
+ghost use Rattle.std.specs.List.{AllByRecursion as Every};
+ghost use Rattle.pre_mpacket.specs.Pieces.{CutRule};
+ghost use Rattle.pre_bound.specs.Solutions.{CoversDelay};
+ghost use Rattle.pre_delay.specs.Ticks.{ObeysTicks, Passed, is_from_to};
 ghost use Rattle.pre_bound.specs.Settled.{PriosBelow};
 ghost use Rattle.pre_bound.specs.Good.{AreGood};
 ghost use Rattle.pre_bound.specs.Uses.{TakesAt, has_port, is_stream, rate_of};
@@ -24,6 +29,41 @@ ghost use Rattle.pre_delay.specs.Timely.{Timely, ticks_over};
 pub fn files_make_a_run()
     ensures { (w : Scenario) → StreamsFit w.net w.streams → ScriptFits w.net w.streams w.script → PriosBelow w.streams.rows
         → ((i : ℕ) (r : Row) (c : Curve) → slice_get w.streams.rows i ≡ Some r → r.curve ≡ Some c → Obeys (offers_of (sends_of w i)) c) → IsRun w }
+{}
+
+/// A busy period is at most the delay longer than the time up to the frame's entry. In it the arc is held by one block, then by the
+/// octets of the port's streams, up to the entry, and of the higher priorities, up to its end; all streams leave some of its time.
+pub fn busy_periods()
+    ensures { (block work rate cost delay own since later period : ℕ) → CoversDelay block work rate cost delay
+        → cost * (own + rate) < 1_000_000
+        → later ≤ period → 1_000_000 * period ≤ 1_000_000 * (block + work) + cost * own * since + cost * rate * later
+        → period ≤ delay + since }
+{}
+
+/// A fragment that began before a tick, from which on express frames wait until it is over, has left with its gap within a least
+/// frame's time, or that of a fragment that can't be cut, of the tick. It is no longer than what was unsent of its frame.
+pub fn blocks()
+    ensures waited { (w : Scenario) (h : History) (b : Begin) (u size : ℕ) → 0 < (arc w b.arc).cost → b.tick < u → CutRule (ExpressWaits w h b.arc) (begun w h b) size
+        → ((x : ℕ) → u ≤ x → x < b.tick + (arc w b.arc).cost * (size + 20) → ExpressWaits w h b.arc x)
+        → b.tick + (arc w b.arc).cost * (size + 20) ≤ u + max (84 * (arc w b.arc).cost)
+        ((arc w b.arc).cost * (64 * (1 + (arc w b.arc).add_frag) + 79)) }
+    ensures own { (w : Scenario) (h : History) (b : Begin) (size : ℕ) → CutRule (ExpressWaits w h b.arc) (begun w h b) size → size ≤ (begun w h b).unsent }
+{}
+
+/// What obeys a burst and a rate, and leaves after at least one time and at most another, obeys in its new ticks the burst that has
+/// grown by the rate in the time between.
+pub fn bursts_grow()
+    ensures { (burst rate delay least next : ℕ) (passed : List Passed) → least ≤ delay
+        → 1_000_000 * burst + rate * (delay - least) ≤ 1_000_000 * next
+        → ((from to : ℕ) → from ≤ to → 1_000_000 * sum_by (λ x. x.octets) (filter (λ x. is_from_to from to x.entry) passed) ≤ 1_000_000 * burst + rate * (to - from))
+        → Every (λ x. (x.entry + least ≤ x.left) × (x.left ≤ x.entry + delay)) passed
+        → (from to : ℕ) → from ≤ to → 1_000_000 * sum_by (λ x. x.octets) (filter (λ x. is_from_to from to x.left) passed) ≤ 1_000_000 * next + rate * (to - from) }
+{}
+
+/// Sends in order obey a curve in every window of places exactly if they obey it from each tick to each later one.
+pub fn windows_are_ticks()
+    ensures ticks { (offers : List Offer) (curve : Curve) → InOrder offers → Obeys offers curve → ObeysTicks curve.burst curve.rate offers }
+    ensures places { (offers : List Offer) (curve : Curve) → InOrder offers → ObeysTicks curve.burst curve.rate offers → Obeys offers curve }
 {}
 
 /// Where what comes to the rings of a port and of the higher priorities on its arc obeys the certified bursts, each frame of the

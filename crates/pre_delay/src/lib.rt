@@ -3,4 +3,7 @@
 
 mod laws;
 
-pub use laws::{files_make_a_run, growth_law, network_law, port_law};
+pub use laws::{
+    blocks, bursts_grow, busy_periods, files_make_a_run, growth_law, network_law, port_law,
+    windows_are_ticks,
+};
