@@ -30,8 +30,8 @@ use Rattle.pre_history.proofs.Undamaged.{length-FrameOf}
 use Rattle.pre_bound.specs.Uses.{TakesAt}
 use Rattle.pre_bound.proofs.Sums.{sum_by-filter-cons}
 use Rattle.pre_delay.specs.Ticks.{is_from_to, octets_from_to}
-use Rattle.pre_delay.specs.Ports.{stream_of, wire, StreamObeys}
-use Rattle.pre_delay.proofs.Port.{IsKnown}
+use Rattle.pre_delay.specs.Ports.{stream_of, wire}
+use Rattle.pre_delay.proofs.Port.{RingObeys, IsKnown}
 use Rattle.pre_delay.proofs.Arcs.{Queued, Some_of, entered_from_to, CameFrom, OtherFrames}
 use Rattle.pre_delay.specs.Runs.{IsRun, sends_of}
 use Rattle.pre_delay.proofs.Lists.{Apart, sums-matched}
@@ -61,7 +61,7 @@ front_less w xs ys i burst rate obeys from to le =
     omega (arith, all, split)
 
 -- What comes in a history is within what comes in a longer one.
-pub front_obeys : (w : Scenario) (h g : History) (a q i burst rate : ℕ) → StreamObeys w (h ++ g) a q i burst rate → StreamObeys w h a q i burst rate
+pub front_obeys : (w : Scenario) (h g : History) (a q i burst rate : ℕ) → RingObeys w (h ++ g) a q i burst rate → RingObeys w h a q i burst rate
 front_obeys w h g a q i burst rate obeys =
     front_less w (Entries h a q) (Entries g a q) i burst rate (subst (λ rs. ListObeys w rs i burst rate) (filter_map-append (entry_on a q) h g) obeys)
 
@@ -88,7 +88,7 @@ told_sum w t a p i from to g cs =
     sym (ring_sum-told w t a p i from to (Entries (EntriesOf w t g cs) a p)) ∙ ap (λ rs. sum_by (wire w) (filter (of_stream w i from to) rs)) (told_entries w t a p g cs)
 
 pub obeys_told : (w : Scenario) (t a p i burst rate : ℕ) (past : History) (cs : List Coming)
-    → ListObeys w (Entries past a p ++ comers w t a p cs) i burst rate → StreamObeys w (past ++ EntriesOf w t past cs) a p i burst rate
+    → ListObeys w (Entries past a p ++ comers w t a p cs) i burst rate → RingObeys w (past ++ EntriesOf w t past cs) a p i burst rate
 obeys_told w t a p i burst rate past cs obeys from to le =
     let all = obeys from to le in
     let here = ring_sum-append w i from to (Entries past a p) (comers w t a p cs) in
@@ -98,7 +98,7 @@ obeys_told w t a p i burst rate past cs obeys from to le =
     omega (arith, all, here, told, joined, same)
 
 pub told_obeys : (w : Scenario) (t a p i burst rate : ℕ) (past : History) (cs : List Coming)
-    → StreamObeys w (past ++ EntriesOf w t past cs) a p i burst rate → ListObeys w (Entries past a p ++ comers w t a p cs) i burst rate
+    → RingObeys w (past ++ EntriesOf w t past cs) a p i burst rate → ListObeys w (Entries past a p ++ comers w t a p cs) i burst rate
 told_obeys w t a p i burst rate past cs obeys from to le =
     let all = obeys from to le in
     let here = ring_sum-append w i from to (Entries past a p) (comers w t a p cs) in
@@ -143,11 +143,11 @@ apart_filter p (r ∷ rs) (here, more) = go (p r) (apart_filter p rs more)
     go true rest = (every-weaker (λ x. (p x ≡ true) × OtherFrame r x) (λ x. r.frame ≢ x.frame) (filter p rs) (λ x both. both.1) (every-filter (OtherFrame r) p rs here), rest)
     go false rest = rest
 
-and_true : (b : Bool) (m : ℕ) → cond (b && true) m 0 ≡ cond b m 0
+pub and_true : (b : Bool) (m : ℕ) → cond (b && true) m 0 ≡ cond b m 0
 and_true true m = refl
 and_true false m = refl
 
-and_false : (b : Bool) (m : ℕ) → cond (b && false) m 0 ≡ 0
+pub and_false : (b : Bool) (m : ℕ) → cond (b && false) m 0 ≡ 0
 and_false true m = refl
 and_false false m = refl
 
@@ -258,7 +258,7 @@ module _ (w : Scenario) (n : ℕ) (h : History) (legal : LegalUpTo w n h) (route
         (ap (λ f. stream_of w f == i) o.same ∙ on, (o.same, omega (arith, long), omega (arith, o.comes, o.by, some), omega (arith, o.comes, out, cost, spread)))) old.0))
 
     -- What comes to the next hop of a stream is within the grown burst.
-    pub next_obeys : (burst rate next_burst : ℕ) (rs : List RingEntry) → Every (KnownToCome w h a) rs → Every (λ (x : RingEntry). x.tick ≤ t) rs → Pairs OtherFrame rs → StreamObeys w past b r.prio i burst rate → 84 * (arc w b).cost ≤ delay
+    pub next_obeys : (burst rate next_burst : ℕ) (rs : List RingEntry) → Every (KnownToCome w h a) rs → Every (λ (x : RingEntry). x.tick ≤ t) rs → Pairs OtherFrame rs → RingObeys w past b r.prio i burst rate → 84 * (arc w b).cost ≤ delay
         → 1_000_000 * burst + rate * (delay - 84 * (arc w b).cost) ≤ 1_000_000 * next_burst → ListObeys w rs i next_burst rate
     next_obeys burst rate next_burst rs come soon apart obeys least covers from to le =
         let same : delay - 12 * (arc w b).cost - 72 * (arc w b).cost ≡ delay - 84 * (arc w b).cost = omega arith in

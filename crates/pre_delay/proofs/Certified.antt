@@ -24,8 +24,8 @@ use Rattle.pre_bound.specs.Solutions.{CoversDelay}
 use Rattle.pre_bound.proofs.Sums.{sum_by-filter-cons, sums_ge}
 use Rattle.pre_bound.proofs.Hops.{OnArc-from, is_on-from}
 use Rattle.pre_delay.specs.Ticks.{is_from_to}
-use Rattle.pre_delay.specs.Ports.{stream_of, wire, StreamObeys, IsOnTime}
-use Rattle.pre_delay.proofs.Port.{IsKnown, IsPort}
+use Rattle.pre_delay.specs.Ports.{stream_of, wire, IsOnTime}
+use Rattle.pre_delay.proofs.Port.{RingObeys, IsKnown, IsPort}
 use Rattle.pre_delay.proofs.Arcs.{Queued, Some_of, Mine, WaitsAt, MineWaits, BegunBefore, Serves, Enters, IsCovered, entered_from_to}
 use Rattle.pre_delay.proofs.Shares.{several}
 use Rattle.pre_delay.proofs.Members.{every-filter, every-weaker}
@@ -140,7 +140,7 @@ is_yes m n e = grind (arith, nat_tests)
 
 module _ (w : Scenario) (n : ℕ) (h : History) (a : ℕ) (legal : LegalUpTo w n h)
     (known : (q j : ℕ) (r : RingEntry) → slice_get (Entries h a q) j ≡ Some r → r.entered ≡ true → IsKnown w a r.frame) (v : Values)
-    (low : ℕ) (obeys : (q i : ℕ) (r : Row) → low ≤ q → slice_get w.streams.rows i ≡ Some r → is_on a q (q + 1) r ≡ true → StreamObeys w h a q i (v.burst i (hop_of a r)) (rate_of r)) where
+    (low : ℕ) (obeys : (q i : ℕ) (r : Row) → low ≤ q → slice_get w.streams.rows i ≡ Some r → is_on a q (q + 1) r ≡ true → RingObeys w h a q i (v.burst i (hop_of a r)) (rate_of r)) where
   rows : List Row
   rows = w.streams.rows
 

@@ -212,19 +212,19 @@ module _ (w : Scenario) (v : Values) (run : IsRun w) (good : AreGood w.net w.str
 
   -- ---- deliveries
 
-  abbrev Timely : PlainEvent → Type 0
-  Timely (PlainEvent.deliver d) = IsExpressFrame w d.frame → d.tick ≤ (send w d.frame).send.tick.0 + v.bound (stream_of w d.frame)
-  Timely (PlainEvent.set t a x) = Unit {0}
-  Timely (PlainEvent.begin b) = Unit {0}
-  Timely (PlainEvent.ended e) = Unit {0}
-  Timely (PlainEvent.arrive x) = Unit {0}
-  Timely (PlainEvent.active t a x) = Unit {0}
-  Timely (PlainEvent.enter e) = Unit {0}
-  Timely (PlainEvent.dropped e) = Unit {0}
-  Timely (PlainEvent.count a c) = Unit {0}
-  Timely (PlainEvent.end e) = Unit {0}
+  abbrev InBound : PlainEvent → Type 0
+  InBound (PlainEvent.deliver d) = IsExpressFrame w d.frame → d.tick ≤ (send w d.frame).send.tick.0 + v.bound (stream_of w d.frame)
+  InBound (PlainEvent.set t a x) = Unit {0}
+  InBound (PlainEvent.begin b) = Unit {0}
+  InBound (PlainEvent.ended e) = Unit {0}
+  InBound (PlainEvent.arrive x) = Unit {0}
+  InBound (PlainEvent.active t a x) = Unit {0}
+  InBound (PlainEvent.enter e) = Unit {0}
+  InBound (PlainEvent.dropped e) = Unit {0}
+  InBound (PlainEvent.count a c) = Unit {0}
+  InBound (PlainEvent.end e) = Unit {0}
 
-  no_delivery : (arcs t k : ℕ) → k < moments arcs → ((a : ℕ) → a < arcs → k ≢ 1 + arcs + a) → (e : PlainEvent) → IsAt arcs (number arcs t k) e → Timely e
+  no_delivery : (arcs t k : ℕ) → k < moments arcs → ((a : ℕ) → a < arcs → k ≢ 1 + arcs + a) → (e : PlainEvent) → IsAt arcs (number arcs t k) e → InBound e
   no_delivery arcs t k lt other (PlainEvent.deliver d) (a, a_lt, at) = absurd (other a a_lt (same_place arcs t d.tick k (1 + arcs + a) lt (omega (arith, a_lt)) at))
   no_delivery arcs t k lt other (PlainEvent.set s a x) at = tt
   no_delivery arcs t k lt other (PlainEvent.begin b) at = tt
@@ -236,9 +236,9 @@ module _ (w : Scenario) (v : Values) (run : IsRun w) (good : AreGood w.net w.str
   no_delivery arcs t k lt other (PlainEvent.count a c) at = tt
   no_delivery arcs t k lt other (PlainEvent.end e) at = tt
 
-  each_timely : {X : Type 0} (R : X → History → Type 0) (xs : List X) (es : History) → Every (λ x. (fs : History) → R x fs → Every Timely fs) xs → Each R xs es → Every Timely es
-  each_timely R [] es says is = subst (Every Timely) (sym is) tt
-  each_timely R (x ∷ xs) es says (front, rest, now, more, is) = subst (Every Timely) (sym is) (every-append Timely front rest (says.0 front now) (each_timely R xs rest says.1 more))
+  each_soon : {X : Type 0} (R : X → History → Type 0) (xs : List X) (es : History) → Every (λ x. (fs : History) → R x fs → Every InBound fs) xs → Each R xs es → Every InBound es
+  each_soon R [] es says is = subst (Every InBound) (sym is) tt
+  each_soon R (x ∷ xs) es says (front, rest, now, more, is) = subst (Every InBound) (sym is) (every-append InBound front rest (says.0 front now) (each_soon R xs rest says.1 more))
 
   module _ (t a : ℕ) (past : History) (lt : a < length w.net.arcs) (legal : LegalUpTo w (number (length w.net.arcs) t (1 + length w.net.arcs + a)) past) where
     carried_at : (i f : ℕ) → frame_at past a i ≡ Some f → (b : Begin) × (slice_get (Begins past a) i ≡ Some b) × (b.what ≡ what.Frame (record { 0 = f }))
@@ -248,74 +248,74 @@ module _ (w : Scenario) (v : Values) (run : IsRun w) (good : AreGood w.net w.str
         go None at is = absurd (cc is)
         go (Some b) at is = (b, at, frame_in_is b.what f is)
 
-    delivered_timely : (node f : ℕ) (octets : List ℕ) (next : Option ℕ) → (IsExpressFrame w f → t ≤ (send w f).send.tick.0 + v.bound (stream_of w f)) → Every Timely (delivered t node f octets next)
-    delivered_timely node f octets None timely = (timely, tt)
-    delivered_timely node f octets (Some b) timely = tt
+    delivered_soon : (node f : ℕ) (octets : List ℕ) (next : Option ℕ) → (IsExpressFrame w f → t ≤ (send w f).send.tick.0 + v.bound (stream_of w f)) → Every InBound (delivered t node f octets next)
+    delivered_soon node f octets None timely = (timely, tt)
+    delivered_soon node f octets (Some b) timely = tt
 
-    with_delivery : (k : ℕ) (e : Ended) → slice_get (Ends past a) k ≡ Some e → e.tick + (arc w a).delay ≡ t → (result : Outcome) (es : History) → WithDelivery w past t a e.ord result es → Every Timely es
+    with_delivery : (k : ℕ) (e : Ended) → slice_get (Ends past a) k ≡ Some e → e.tick + (arc w a).delay ≡ t → (result : Outcome) (es : History) → WithDelivery w past t a e.ord result es → Every InBound es
     with_delivery k e at due outcome.Frame es (f, octets, carried, gives, is) =
         let o = (steady w (number (length w.net.arcs) t (1 + length w.net.arcs + a)) past a lt legal).ordered in
         let ord : e.ord ≡ k = o.end_places k e at in
         let b = carried_at k f (subst (λ i. frame_at past a i ≡ Some f) ord carried) in
-        subst (Every Timely) (sym is) (
+        subst (Every InBound) (sym is) (
           tt,
-          delivered_timely (arc w a).to.0 f octets (next_arc w a f)
+          delivered_soon (arc w a).to.0 f octets (next_arc w a f)
               (λ stream. let high = begun_high w run (number (length w.net.arcs) t (1 + length w.net.arcs + a)) past legal a k b.0 (record { 0 = f }) b.1 b.2 stream in let x = ends_in_bound (number (length w.net.arcs) t (1 + length w.net.arcs + a)) past legal a k f b.0 e lt high b.1 at b.2 in omega (arith, x, due)),
         )
-    with_delivery k e at due outcome.Lost es is = subst (Every Timely) (sym is) (tt, tt)
-    with_delivery k e at due outcome.Part es is = subst (Every Timely) (sym is) (tt, tt)
-    with_delivery k e at due outcome.Verify es is = subst (Every Timely) (sym is) (tt, tt)
-    with_delivery k e at due outcome.Respond es is = subst (Every Timely) (sym is) (tt, tt)
-    with_delivery k e at due outcome.Lldp es is = subst (Every Timely) (sym is) (tt, tt)
-    with_delivery k e at due outcome.Nothing es is = subst (Every Timely) (sym is) (tt, tt)
+    with_delivery k e at due outcome.Lost es is = subst (Every InBound) (sym is) (tt, tt)
+    with_delivery k e at due outcome.Part es is = subst (Every InBound) (sym is) (tt, tt)
+    with_delivery k e at due outcome.Verify es is = subst (Every InBound) (sym is) (tt, tt)
+    with_delivery k e at due outcome.Respond es is = subst (Every InBound) (sym is) (tt, tt)
+    with_delivery k e at due outcome.Lldp es is = subst (Every InBound) (sym is) (tt, tt)
+    with_delivery k e at due outcome.Nothing es is = subst (Every InBound) (sym is) (tt, tt)
 
-    arriving : (k : ℕ) (e : Ended) → slice_get (Ends past a) k ≡ Some e → (fs : History) → Arriving w past t a e fs → Every Timely fs
+    arriving : (k : ℕ) (e : Ended) → slice_get (Ends past a) k ≡ Some e → (fs : History) → Arriving w past t a e fs → Every InBound fs
     arriving k e at fs (inl (due, (result, gives, more))) = with_delivery k e at due result fs more
-    arriving k e at fs (inr (other, is)) = subst (Every Timely) (sym is) tt
+    arriving k e at fs (inr (other, is)) = subst (Every InBound) (sym is) tt
 
-    arrivals_timely : (es : History) → Each (Arriving w past t a) (Ends past a) es → Every Timely es
-    arrivals_timely es each = each_timely (Arriving w past t a) (Ends past a) es (every_placed (λ e. (fs : History) → Arriving w past t a e fs → Every Timely fs) (Ends past a) arriving) each
+    arrivals_soon : (es : History) → Each (Arriving w past t a) (Ends past a) es → Every InBound es
+    arrivals_soon es each = each_soon (Arriving w past t a) (Ends past a) es (every_placed (λ e. (fs : History) → Arriving w past t a e fs → Every InBound fs) (Ends past a) arriving) each
 
   module _ (past es : History) (t k : ℕ) (k_lt : k < moments (length w.net.arcs)) (at : AllAt (length w.net.arcs) (number (length w.net.arcs) t k) es) (legal : LegalUpTo w (number (length w.net.arcs) t k) past) where
-    none : ((a : ℕ) → a < length w.net.arcs → k ≢ 1 + length w.net.arcs + a) → Every Timely es
-    none other = every_weaker (IsAt (length w.net.arcs) (number (length w.net.arcs) t k)) Timely (no_delivery (length w.net.arcs) t k k_lt other) es at
+    none : ((a : ℕ) → a < length w.net.arcs → k ≢ 1 + length w.net.arcs + a) → Every InBound es
+    none other = every_weaker (IsAt (length w.net.arcs) (number (length w.net.arcs) t k)) InBound (no_delivery (length w.net.arcs) t k k_lt other) es at
 
-    phase_timely : (p : Phase) → HasPlace (length w.net.arcs) k p → HappensIn w past t p es → Every Timely es
+    phase_soon : (p : Phase) → HasPlace (length w.net.arcs) k p → HappensIn w past t p es → Every InBound es
     unfolding HappensIn
-    phase_timely Phase.sets place is = none (λ a lt e. absurd (omega (arith, e, place)))
-    phase_timely (Phase.ends b) (b_lt, place) is = none (λ a lt e. absurd (omega (arith, e, place, b_lt)))
-    phase_timely (Phase.arrivals b) (b_lt, place) is = arrivals_timely t b past b_lt (subst (λ m. LegalUpTo w (number (length w.net.arcs) t m) past) place legal) es is
-    phase_timely (Phase.expiries b) (b_lt, place) is = none (λ a lt e. absurd (omega (arith, e, place, lt)))
-    phase_timely Phase.entries place is = none (λ a lt e. absurd (omega (arith, e, place, lt)))
-    phase_timely (Phase.starts b) (b_lt, place) is = none (λ a lt e. absurd (omega (arith, e, place, lt)))
+    phase_soon Phase.sets place is = none (λ a lt e. absurd (omega (arith, e, place)))
+    phase_soon (Phase.ends b) (b_lt, place) is = none (λ a lt e. absurd (omega (arith, e, place, b_lt)))
+    phase_soon (Phase.arrivals b) (b_lt, place) is = arrivals_soon t b past b_lt (subst (λ m. LegalUpTo w (number (length w.net.arcs) t m) past) place legal) es is
+    phase_soon (Phase.expiries b) (b_lt, place) is = none (λ a lt e. absurd (omega (arith, e, place, lt)))
+    phase_soon Phase.entries place is = none (λ a lt e. absurd (omega (arith, e, place, lt)))
+    phase_soon (Phase.starts b) (b_lt, place) is = none (λ a lt e. absurd (omega (arith, e, place, lt)))
 
-  all_timely : (n : ℕ) (h : History) → LegalUpTo w n h → Every Timely h
-  all_timely zero h is = subst (Every Timely) (sym is) tt
-  all_timely (suc n) h (past, es, is, legal, happens) =
+  all_soon : (n : ℕ) (h : History) → LegalUpTo w n h → Every InBound h
+  all_soon zero h is = subst (Every InBound) (sym is) tt
+  all_soon (suc n) h (past, es, is, legal, happens) =
       let A = length w.net.arcs in
       let t = n / moments A in
       let k = n % moments A in
       let n_is : n ≡ number A t k = numbered A n in
-      subst (Every Timely) (sym is) (every-append Timely past es (all_timely n past legal)
-      (phase_timely past es t k (place_below A n) (subst (λ m. AllAt A m es) n_is (moment_events w past n es happens)) (subst (λ m. LegalUpTo w m past) n_is legal) (phase_at A k) (place_at A n) happens))
+      subst (Every InBound) (sym is) (every-append InBound past es (all_soon n past legal)
+      (phase_soon past es t k (place_below A n) (subst (λ m. AllAt A m es) n_is (moment_events w past n es happens)) (subst (λ m. LegalUpTo w m past) n_is legal) (phase_at A k) (place_at A n) happens))
 
-  delivery_timely : (e : PlainEvent) (d : Delivery) → Timely e → delivery_of e ≡ Some d → IsExpressFrame w d.frame → d.tick ≤ (send w d.frame).send.tick.0 + v.bound (stream_of w d.frame)
-  delivery_timely (PlainEvent.deliver c) d timely is =
+  delivery_soon : (e : PlainEvent) (d : Delivery) → InBound e → delivery_of e ≡ Some d → IsExpressFrame w d.frame → d.tick ≤ (send w d.frame).send.tick.0 + v.bound (stream_of w d.frame)
+  delivery_soon (PlainEvent.deliver c) d timely is =
       let same : c ≡ d = cc is in
       subst (λ (x : Delivery). IsExpressFrame w x.frame → x.tick ≤ (send w x.frame).send.tick.0 + v.bound (stream_of w x.frame)) same timely
-  delivery_timely (PlainEvent.set s a x) d timely is = absurd (cc is)
-  delivery_timely (PlainEvent.begin b) d timely is = absurd (cc is)
-  delivery_timely (PlainEvent.ended e) d timely is = absurd (cc is)
-  delivery_timely (PlainEvent.arrive x) d timely is = absurd (cc is)
-  delivery_timely (PlainEvent.active s a x) d timely is = absurd (cc is)
-  delivery_timely (PlainEvent.enter e) d timely is = absurd (cc is)
-  delivery_timely (PlainEvent.dropped e) d timely is = absurd (cc is)
-  delivery_timely (PlainEvent.count a c) d timely is = absurd (cc is)
-  delivery_timely (PlainEvent.end e) d timely is = absurd (cc is)
+  delivery_soon (PlainEvent.set s a x) d timely is = absurd (cc is)
+  delivery_soon (PlainEvent.begin b) d timely is = absurd (cc is)
+  delivery_soon (PlainEvent.ended e) d timely is = absurd (cc is)
+  delivery_soon (PlainEvent.arrive x) d timely is = absurd (cc is)
+  delivery_soon (PlainEvent.active s a x) d timely is = absurd (cc is)
+  delivery_soon (PlainEvent.enter e) d timely is = absurd (cc is)
+  delivery_soon (PlainEvent.dropped e) d timely is = absurd (cc is)
+  delivery_soon (PlainEvent.count a c) d timely is = absurd (cc is)
+  delivery_soon (PlainEvent.end e) d timely is = absurd (cc is)
 
   -- Each delivered frame of an express priority was sent at most its stream's bound before.
   pub deliveries_in_bound : (n : ℕ) (h : History) → LegalUpTo w n h → (j : ℕ) (d : Delivery) → slice_get (Deliveries h) j ≡ Some d → IsExpressFrame w d.frame
       → d.tick ≤ (send w d.frame).send.tick.0 + v.bound (stream_of w d.frame)
   deliveries_in_bound n h legal j d at =
       every_at (λ (x : Delivery). IsExpressFrame w x.frame → x.tick ≤ (send w x.frame).send.tick.0 + v.bound (stream_of w x.frame)) (Deliveries h) j d
-      (every_selected delivery_of Timely (λ (x : Delivery). IsExpressFrame w x.frame → x.tick ≤ (send w x.frame).send.tick.0 + v.bound (stream_of w x.frame)) delivery_timely h (all_timely n h legal)) at
+      (every_selected delivery_of InBound (λ (x : Delivery). IsExpressFrame w x.frame → x.tick ≤ (send w x.frame).send.tick.0 + v.bound (stream_of w x.frame)) delivery_soon h (all_soon n h legal)) at

@@ -1,5 +1,5 @@
 -- All of a run is timely, also with its closing events.
-use Rattle.std.proofs.Common.{ℕ, zero, suc, Bool, true, false, ◌==◌, ◌&&◌, not, nat_le, nat_lt, ◌≡◌, ◌+◌, ◌<◌, ◌≤◌, [], ◌∷◌, ◌++◌, length, filter, map, refl, sym, ◌∙◌, ap, arith, subst, Option, None}
+use Rattle.std.proofs.Common.{ℕ, zero, suc, Bool, true, false, cond, List, ◌==◌, ◌&&◌, not, nat_le, nat_lt, ◌≡◌, ◌+◌, ◌<◌, ◌≤◌, [], ◌∷◌, ◌++◌, length, filter, map, refl, sym, ◌∙◌, ap, arith, subst, Option, None}
 use Rattle.std.specs.Prelude.{slice_get, if◌then◌else◌, All, Any, IsTrue, IsFalse, filter_map, sum_by}
 use Rattle.std.specs.List.{list_any, AllByRecursion as Every}
 use Rattle.std.proofs.lemmas.List.Elements.{filter_map-append}
@@ -16,10 +16,14 @@ use Rattle.pre_history.proofs.Lists.{every-append, every_weaker, none_selected, 
 use Rattle.pre_bound.specs.Uses.{has_port, rate_of}
 use Rattle.pre_bound.specs.Values.{Values}
 use Rattle.pre_bound.specs.Good.{AreGood}
-use Rattle.pre_delay.specs.Ports.{IsOnTime, PortIsTimely, wire_of}
+use Rattle.pre_curve.specs.Windows.{Offer}
+use Rattle.pre_bound.proofs.Sums.{sum_by-filter-cons}
+use Rattle.pre_delay.specs.Ticks.{ObeysTicks, is_from_to, octets_from_to}
+use Rattle.pre_delay.specs.Ports.{IsOnTime, PortIsTimely, StreamObeys, offers_among, stream_of, wire, wire_of}
+use Rattle.pre_delay.proofs.Port.{RingObeys}
 use Rattle.pre_delay.specs.Runs.{IsRun}
 use Rattle.pre_delay.specs.Timely.{Timely}
-use Rattle.pre_delay.proofs.Bursts.{ListObeys}
+use Rattle.pre_delay.proofs.Bursts.{and_false, and_true, of_stream}
 use Rattle.pre_delay.proofs.OnePort.{timely}
 use Rattle.pre_delay.proofs.Network.{all_obey, port_obeys}
 use Rattle.pre_delay.proofs.Delivered.{deliveries_in_bound}
@@ -88,6 +92,30 @@ same_selected : {X : Type 0} (sel : PlainEvent → Option X) (body end : History
 same_selected sel body end none closed =
     filter_map-append sel body end ∙ no_append (filter_map sel body) (filter_map sel end) (none_selected sel end (every_weaker IsClosing (λ e. sel e ≡ None) none end closed))
 
+-- ---- what obeys, as offers
+
+offers_sum : (w : Scenario) (i from to : ℕ) (es : List RingEntry) → octets_from_to from to (offers_among w i es) ≡ sum_by (wire w) (filter (of_stream w i from to) es)
+offers_sum w i from to [] = refl
+offers_sum w i from to (r ∷ es) =
+    let rest = offers_sum w i from to es in
+    let right = sum_by-filter-cons (wire w) (of_stream w i from to) r es in
+    let F = filter (λ (x : RingEntry). stream_of w x.frame == i) es in
+    let left : octets_from_to from to (offers_among w i (r ∷ es)) ≡ cond (is_from_to from to r.tick && (stream_of w r.frame == i)) (wire w r) 0 + sum_by (wire w) (filter (of_stream w i from to) es) =
+    elim (stream_of w r.frame == i) as (λ b. octets_from_to from to (map (λ (x : RingEntry). record { tick = x.tick; octets = wire w x }) (cond b (r ∷ F) F)) ≡ cond (is_from_to from to r.tick && b) (wire w r) 0 + sum_by (wire w) (filter (of_stream w i from to) es)) [
+      | true ↦ let one = sum_by-filter-cons (λ (o : Offer). o.octets) (λ o. is_from_to from to o.tick) (record { tick = r.tick; octets = wire w r }) (offers_among w i es) in
+          let e = and_true (is_from_to from to r.tick) (wire w r) in
+          omega (arith, one, e, rest)
+      | false ↦ let e = and_false (is_from_to from to r.tick) (wire w r) in omega (arith, e, rest)
+    ]
+    in
+    omega (arith, left, right)
+
+pub ring_obeys : (w : Scenario) (h : History) (a p i burst rate : ℕ) → StreamObeys w h a p i burst rate → RingObeys w h a p i burst rate
+ring_obeys w h a p i burst rate obeys from to le = let all = obeys from to le in let same = offers_sum w i from to (Entries h a p) in omega (arith, all, same)
+
+pub stream_obeys : (w : Scenario) (h : History) (a p i burst rate : ℕ) → RingObeys w h a p i burst rate → StreamObeys w h a p i burst rate
+stream_obeys w h a p i burst rate obeys from to le = let all = obeys from to le in let same = offers_sum w i from to (Entries h a p) in omega (arith, all, same)
+
 -- what holds of the legal history holds with its closing events
 module _ (w : Scenario) (v : Values) (body end : History) (done : ℕ) (closed : Every IsClosing end) (t : Timely w body done v) where
   begins : (a : ℕ) → Begins (body ++ end) a ≡ Begins body a
@@ -117,7 +145,7 @@ module _ (w : Scenario) (v : Values) (body end : History) (done : ℕ) (closed :
 
   closed_too : Timely w (body ++ end) done v
   closed_too = record {
-    entries_obey = λ i r at stream hop a here. subst (λ rs. ListObeys w rs i (v.burst i hop) (rate_of r)) (sym (entries a r.prio)) (t.entries_obey i r at stream hop a here);
+    entries_obey = λ i r at stream hop a here. subst (λ rs. ObeysTicks (v.burst i hop) (rate_of r) (offers_among w i rs)) (sym (entries a r.prio)) (t.entries_obey i r at stream hop a here);
     begun_in_time = λ a p j r has at. on_time a p r (t.begun_in_time a p j r has (ap (λ xs. slice_get xs j) (sym (entries a p)) ∙ at));
     queue_within_size = λ a p x has less. subst (λ fs. sum_by (wire_of w) fs ≤ v.size a p) (sym (waiting a p x)) (t.queue_within_size a p x has less);
     none_dropped = λ a p has. subst (Every (λ (r : RingEntry). r.entered ≡ true)) (sym (entries a p)) (t.none_dropped a p has);
@@ -128,7 +156,7 @@ module _ (w : Scenario) (v : Values) (body end : History) (done : ℕ) (closed :
 -- In each legal history that goes up to a moment of a tick all is timely.
 pub timely_at : (w : Scenario) (v : Values) → IsRun w → AreGood w.net w.streams.rows v → (n : ℕ) (h : History) (t k : ℕ) → k < moments (length w.net.arcs) → n ≡ number (length w.net.arcs) t k → LegalUpTo w n h → Timely w h t v
 timely_at w v run good n h t k k_lt n_is legal = record {
-  entries_obey = all_obey w v run good n h legal;
+  entries_obey = λ i r at stream hop a here'. stream_obeys w h a r.prio i (v.burst i hop) (rate_of r) (all_obey w v run good n h legal i r at stream hop a here');
   begun_in_time = λ a p j r has at. (here a p has).begun_in_time j r at;
   queue_within_size = λ a p x has less. (here a p has).queue_within_size x less;
   none_dropped = λ a p has. (here a p has).none_dropped;

@@ -30,9 +30,9 @@ use Rattle.pre_bound.specs.Uses.{TakesAt, hop_of, is_stream, rate_of, burst_of}
 use Rattle.pre_bound.specs.Values.{Values}
 use Rattle.pre_bound.specs.Good.{AreGood}
 use Rattle.pre_bound.proofs.Hops.{OnArc-from, TakesAt-hop_of, TakesAt-place, TakesAt-from}
-use Rattle.pre_delay.specs.Ports.{stream_of, StreamObeys, PortObeys, IsOnTime}
+use Rattle.pre_delay.specs.Ports.{stream_of, IsOnTime}
+use Rattle.pre_delay.proofs.Port.{RingObeys, RingsObey, HopsObey}
 use Rattle.pre_delay.specs.Runs.{IsRun}
-use Rattle.pre_delay.specs.Timely.{EntriesObey}
 use Rattle.pre_delay.proofs.Rings.{entries_prio}
 use Rattle.pre_delay.proofs.Sent.{express_begins}
 use Rattle.pre_delay.proofs.Seen.{some-begun}
@@ -73,11 +73,11 @@ entries_within arcs m n a p es within j r at =
     (every_selected (entry_on a p) (IsWithin arcs m n) (λ r. m ≤ number arcs r.tick (1 + 3 * arcs)) (λ e r here is. let o = entry_at arcs here.0 a p e r here.3 is in omega (arith, o, here.1)) es within) at
 
 module _ (w : Scenario) (v : Values) (run : IsRun w) (good : AreGood w.net w.streams.rows v) where
-  pub port_obeys : (h : History) (a p : ℕ) → EntriesObey w h v → PortObeys w h v a p
+  pub port_obeys : (h : History) (a p : ℕ) → HopsObey w h v → RingsObey w h v a p
   port_obeys h a p obey q i r le listed on =
       let x = OnArc-from a q (q + 1) r on in
       let prio : r.prio ≡ q = omega (arith, x.from, x.below) in
-      subst (λ k. StreamObeys w h a k i (v.burst i (hop_of a r)) (rate_of r)) prio (obey i r listed x.express (hop_of a r) a (TakesAt-hop_of r a x.takes))
+      subst (λ k. RingObeys w h a k i (v.burst i (hop_of a r)) (rate_of r)) prio (obey i r listed x.express (hop_of a r) a (TakesAt-hop_of r a x.takes))
 
   -- the burst at the next hop covers that at this one, grown by the delay
   grown_at : (i : ℕ) (r : Row) (at : slice_get w.streams.rows i ≡ Some r) (stream : is_stream r ≡ true) (hop a b : ℕ) (here : TakesAt r hop b) → TakesAt r (hop + 1) a
@@ -91,7 +91,7 @@ module _ (w : Scenario) (v : Values) (run : IsRun w) (good : AreGood w.net w.str
 
   -- ---- the entries of a tick
 
-  module _ (t : ℕ) (past : History) (legal : LegalUpTo w (entries_moment w t) past) (obey : EntriesObey w past v)
+  module _ (t : ℕ) (past : History) (legal : LegalUpTo w (entries_moment w t) past) (obey : HopsObey w past v)
       (i : ℕ) (r : Row) (at : slice_get w.streams.rows i ≡ Some r) (stream : is_stream r ≡ true) (hop a : ℕ) (here : TakesAt r hop a) where
     abbrev now_list : List RingEntry
     now_list = Entries past a r.prio ++ comers w t a r.prio (Comings w past t)
@@ -139,7 +139,7 @@ module _ (w : Scenario) (v : Values) (run : IsRun w) (good : AreGood w.net w.str
         (have_left w past b r.prio i t (v.delay b r.prio) (all_left b last before))
         (v.burst i last) (rate_of r) (v.burst i (last + 1)) now_list now_facts now_soon now_apart (obey i r at stream last b before) grown.0 grown.1
 
-  now_obeys : (t : ℕ) (past : History) → LegalUpTo w (entries_moment w t) past → EntriesObey w past v → EntriesObey w (past ++ EntriesOf w t past (Comings w past t)) v
+  now_obeys : (t : ℕ) (past : History) → LegalUpTo w (entries_moment w t) past → HopsObey w past v → HopsObey w (past ++ EntriesOf w t past (Comings w past t)) v
   now_obeys t past legal obey i r at stream zero a here =
       let c = curve_of r.curve stream in
       obeys_told w t a r.prio i (v.burst i 0) (rate_of r) past (Comings w past t) (first_now t past legal obey i r at stream 0 a here c.0 c.1 here)
@@ -154,11 +154,11 @@ module _ (w : Scenario) (v : Values) (run : IsRun w) (good : AreGood w.net w.str
 
   -- ---- over all moments
 
-  module _ (past es : History) (t k : ℕ) (k_lt : k < moments (length w.net.arcs)) (at : AllAt (length w.net.arcs) (number (length w.net.arcs) t k) es) (old : EntriesObey w past v) where
-    quiet : k ≢ 1 + 3 * length w.net.arcs → EntriesObey w (past ++ es) v
+  module _ (past es : History) (t k : ℕ) (k_lt : k < moments (length w.net.arcs)) (at : AllAt (length w.net.arcs) (number (length w.net.arcs) t k) es) (old : HopsObey w past v) where
+    quiet : k ≢ 1 + 3 * length w.net.arcs → HopsObey w (past ++ es) v
     quiet other i r at' stream hop a here = subst (λ rs. ListObeys w rs i (v.burst i hop) (rate_of r)) (sym (same_entries (length w.net.arcs) t k a r.prio past es k_lt other at)) (old i r at' stream hop a here)
 
-    step : LegalUpTo w (number (length w.net.arcs) t k) past → (f : Phase) → HasPlace (length w.net.arcs) k f → HappensIn w past t f es → EntriesObey w (past ++ es) v
+    step : LegalUpTo w (number (length w.net.arcs) t k) past → (f : Phase) → HasPlace (length w.net.arcs) k f → HappensIn w past t f es → HopsObey w (past ++ es) v
     unfolding HappensIn
     step legal Phase.sets place happens = quiet (λ e. absurd (omega (arith, e, place)))
     step legal (Phase.ends b) (b_lt, place) happens = quiet (λ e. absurd (omega (arith, e, place, b_lt)))
@@ -167,16 +167,16 @@ module _ (w : Scenario) (v : Values) (run : IsRun w) (good : AreGood w.net w.str
     step legal (Phase.starts b) (b_lt, place) happens = quiet (λ e. absurd (omega (arith, e, place)))
     step legal Phase.entries place happens =
         let legal' : LegalUpTo w (entries_moment w t) past = subst (λ k. LegalUpTo w (number (length w.net.arcs) t k) past) place legal in
-        subst (λ xs. EntriesObey w (past ++ xs) v) (sym happens) (now_obeys t past legal' old)
+        subst (λ xs. HopsObey w (past ++ xs) v) (sym happens) (now_obeys t past legal' old)
 
   -- In each legal history all obey.
-  pub all_obey : (n : ℕ) (h : History) → LegalUpTo w n h → EntriesObey w h v
-  all_obey zero h is = subst (λ x. EntriesObey w x v) (sym is) (λ i r at stream hop a here from to le. omega arith)
+  pub all_obey : (n : ℕ) (h : History) → LegalUpTo w n h → HopsObey w h v
+  all_obey zero h is = subst (λ x. HopsObey w x v) (sym is) (λ i r at stream hop a here from to le. omega arith)
   all_obey (suc n) h (past, es, is, legal, happens) =
       let t = n / moments (length w.net.arcs) in
       let k = n % moments (length w.net.arcs) in
       let n_is : n ≡ number (length w.net.arcs) t k = numbered (length w.net.arcs) n in
-      subst (λ x. EntriesObey w x v) (sym is)
+      subst (λ x. HopsObey w x v) (sym is)
       (step past es t k (place_below (length w.net.arcs) n) (subst (λ m. AllAt (length w.net.arcs) m es) n_is (moment_events w past n es happens)) (all_obey n past legal)
       (subst (λ m. LegalUpTo w m past) n_is legal) (phase_at (length w.net.arcs) k) (place_at (length w.net.arcs) n) happens)
 
@@ -241,7 +241,7 @@ module _ (w : Scenario) (v : Values) (run : IsRun w) (good : AreGood w.net w.str
         (some_at (λ z. z ≡ y) (Entries past b r.prio) j y old refl, (in_time j y old mine).left k g (old_begin k g found early) carries)
 
     -- What comes to the next hop by the tick obeys, where what came to this one before it did, and left in time.
-    pub grows : StreamObeys w past b r.prio i (v.burst i hop) (rate_of r) → StreamObeys w h a r.prio i (v.burst i (hop + 1)) (rate_of r)
+    pub grows : RingObeys w past b r.prio i (v.burst i hop) (rate_of r) → RingObeys w h a r.prio i (v.burst i (hop + 1)) (rate_of r)
     grows obey =
         let grown = grown_at i r at stream hop a b here next in
         let high' = row_high w v run good i r at stream (hop + 1) a next in

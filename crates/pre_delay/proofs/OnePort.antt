@@ -29,8 +29,8 @@ use Rattle.pre_bound.specs.Uses.{TakesAt, hop_of, is_on, is_stream, rate_of, has
 use Rattle.pre_bound.specs.Values.{Values}
 use Rattle.pre_bound.specs.Good.{AreGood}
 use Rattle.pre_bound.proofs.Hops.{OnArc-from, TakesAt-hop_of, has_arc-from_port, has_port-from, contains_at}
-use Rattle.pre_delay.specs.Ports.{PortObeys, IsOnTime, PortIsTimely}
-use Rattle.pre_delay.proofs.Port.{IsKnown, IsPort, ComesTo}
+use Rattle.pre_delay.specs.Ports.{IsOnTime, PortIsTimely}
+use Rattle.pre_delay.proofs.Port.{RingsObey, IsKnown, IsPort, ComesTo}
 use Rattle.pre_delay.specs.Runs.{IsRun}
 use Rattle.pre_delay.proofs.Rings.{entries_prio}
 use Rattle.pre_delay.proofs.Sent.{express_begins}
@@ -135,7 +135,7 @@ module _ (w : Scenario) (v : Values) (run : IsRun w) (good : AreGood w.net w.str
 
     -- the port in a history in which what comes to it obeys
     pub port : (n : ℕ) (h : History) (done : ℕ) → LegalUpTo w n h → ((x : ℕ) → x < done → number (length w.net.arcs) x (2 + 3 * length w.net.arcs + a) < n)
-        → ((x : ℕ) → number (length w.net.arcs) x (2 + 3 * length w.net.arcs + a) < n → x < done) → PortObeys w h v a p → IsPort w n h a p done v
+        → ((x : ℕ) → number (length w.net.arcs) x (2 + 3 * length w.net.arcs + a) < n → x < done) → RingsObey w h v a p → IsPort w n h a p done v
     port n h done legal over unstarted obey = record {
       legal = legal;
       within = at.within;
@@ -175,7 +175,7 @@ module _ (w : Scenario) (v : Values) (run : IsRun w) (good : AreGood w.net w.str
           (λ c r by x. (x.now, x.entered, sym x.prio ∙ ap (λ f. (row w f).prio) (sym x.frame))) (Comings w past t) (comings_by w past t)
 
       -- the port before the entries of the tick
-      pub port_now : PortObeys w past v a p → IsPort w (entries_moment w t) past a p t v
+      pub port_now : RingsObey w past v a p → IsPort w (entries_moment w t) past a p t v
       port_now obey =
           port (entries_moment w t) past t legal
           (λ x less. earlier (moments (length w.net.arcs)) x t (2 + 3 * length w.net.arcs + a) (1 + 3 * length w.net.arcs) (let lt = at.within in omega (arith, lt)) less)
@@ -188,7 +188,7 @@ module _ (w : Scenario) (v : Values) (run : IsRun w) (good : AreGood w.net w.str
           ]
 
       -- what comes has room, where it obeys
-      room_now : PortObeys w past v a p → PortObeys w (past ++ EntriesOf w t past (Comings w past t)) v a p → HasRoom w t a p past (Comings w past t)
+      room_now : RingsObey w past v a p → RingsObey w (past ++ EntriesOf w t past (Comings w past t)) v a p → HasRoom w t a p past (Comings w past t)
       room_now obey now some =
           let fits = have_room w (entries_moment w t) past a p t v (port_now obey) (good.size a p at.within at.below has) (fresh_here (entries_moment w t) past legal) t (omega arith) (good.ring a p at.within at.below has)
           (comers w t a p (Comings w past t)) (comes (comers w t a p (Comings w past t)) comer_facts comer_places)
@@ -201,7 +201,7 @@ module _ (w : Scenario) (v : Values) (run : IsRun w) (good : AreGood w.net w.str
           comes (r ∷ rs) e f = (record { now = f.0.0; entered = f.0.1; prio = f.0.2; known = e.0.0 }, comes rs e.1 f.1)
 
       -- so it enters
-      pub enter_now : PortObeys w past v a p → PortObeys w (past ++ EntriesOf w t past (Comings w past t)) v a p → Every (λ (r : RingEntry). r.entered ≡ true) (Entries past a p)
+      pub enter_now : RingsObey w past v a p → RingsObey w (past ++ EntriesOf w t past (Comings w past t)) v a p → Every (λ (r : RingEntry). r.entered ≡ true) (Entries past a p)
           → Every (λ (r : RingEntry). r.entered ≡ true) (Entries (past ++ EntriesOf w t past (Comings w past t)) a p)
       enter_now obey now old =
           subst (Every (λ (r : RingEntry). r.entered ≡ true))
@@ -212,7 +212,7 @@ module _ (w : Scenario) (v : Values) (run : IsRun w) (good : AreGood w.net w.str
     -- ---- over all moments
 
     step : (past es : History) (t k : ℕ) → k < moments (length w.net.arcs) → AllAt (length w.net.arcs) (number (length w.net.arcs) t k) es → LegalUpTo w (number (length w.net.arcs) t k) past
-        → PortObeys w past v a p → PortObeys w (past ++ es) v a p → Every (λ (r : RingEntry). r.entered ≡ true) (Entries past a p)
+        → RingsObey w past v a p → RingsObey w (past ++ es) v a p → Every (λ (r : RingEntry). r.entered ≡ true) (Entries past a p)
         → (f : Phase) → HasPlace (length w.net.arcs) k f → HappensIn w past t f es → Every (λ (r : RingEntry). r.entered ≡ true) (Entries (past ++ es) a p)
     unfolding HappensIn
     step past es t k k_lt all legal obey now old f place happens = go f place happens
@@ -229,24 +229,24 @@ module _ (w : Scenario) (v : Values) (run : IsRun w) (good : AreGood w.net w.str
         go Phase.entries place happens =
             let legal' : LegalUpTo w (entries_moment w t) past = subst (λ k. LegalUpTo w (number (length w.net.arcs) t k) past) place legal in
             subst (λ xs. Every (λ (r : RingEntry). r.entered ≡ true) (Entries (past ++ xs) a p)) (sym happens)
-            (enter_now t past legal' obey (subst (λ xs. PortObeys w (past ++ xs) v a p) happens now) old)
+            (enter_now t past legal' obey (subst (λ xs. RingsObey w (past ++ xs) v a p) happens now) old)
 
     -- Where what comes obeys, all of it enters.
-    pub all_entered : (n : ℕ) (h : History) → LegalUpTo w n h → PortObeys w h v a p → Every (λ (r : RingEntry). r.entered ≡ true) (Entries h a p)
+    pub all_entered : (n : ℕ) (h : History) → LegalUpTo w n h → RingsObey w h v a p → Every (λ (r : RingEntry). r.entered ≡ true) (Entries h a p)
     all_entered zero h is obey = subst (λ x. Every (λ (r : RingEntry). r.entered ≡ true) (Entries x a p)) (sym is) tt
     all_entered (suc n) h (past, es, is, legal, happens) obey =
         let t = n / moments (length w.net.arcs) in
         let k = n % moments (length w.net.arcs) in
         let n_is : n ≡ number (length w.net.arcs) t k = numbered (length w.net.arcs) n in
-        let now : PortObeys w (past ++ es) v a p = subst (λ x. PortObeys w x v a p) is obey in
-        let before : PortObeys w past v a p = (λ q i r le row on. front_obeys w past es a q i (v.burst i (hop_of a r)) (rate_of r) (now q i r le row on)) in
+        let now : RingsObey w (past ++ es) v a p = subst (λ x. RingsObey w x v a p) is obey in
+        let before : RingsObey w past v a p = (λ q i r le row on. front_obeys w past es a q i (v.burst i (hop_of a r)) (rate_of r) (now q i r le row on)) in
         subst (λ x. Every (λ (r : RingEntry). r.entered ≡ true) (Entries x a p)) (sym is)
         (step past es t k (place_below (length w.net.arcs) n) (subst (λ m. AllAt (length w.net.arcs) m es) n_is (moment_events w past n es happens)) (subst (λ m. LegalUpTo w m past) n_is legal)
         before now (all_entered n past legal before) (phase_at (length w.net.arcs) k) (place_at (length w.net.arcs) n) happens)
 
     -- ---- the port
 
-    module _ (n : ℕ) (h : History) (t k : ℕ) (k_lt : k < moments (length w.net.arcs)) (n_is : n ≡ number (length w.net.arcs) t k) (legal : LegalUpTo w n h) (obey : PortObeys w h v a p) where
+    module _ (n : ℕ) (h : History) (t k : ℕ) (k_lt : k < moments (length w.net.arcs)) (n_is : n ≡ number (length w.net.arcs) t k) (legal : LegalUpTo w n h) (obey : RingsObey w h v a p) where
       here : Told (length w.net.arcs) n a t
       here = subst (λ m. Told (length w.net.arcs) m a t) (sym n_is) (told (length w.net.arcs) t k a at.within k_lt)
 

@@ -1,5 +1,5 @@
 -- What comes to a port of a network, and how long and how many wait at it.
-use Rattle.std.specs.Prelude.{ℕ, ◌+◌, ◌-◌, ◌*◌, ◌<◌, ◌≤◌, ◌≡◌, ◌==◌, ◌&&◌, true, length, filter, sum_by, Some, slice_get}
+use Rattle.std.specs.Prelude.{ℕ, ◌+◌, ◌*◌, ◌<◌, ◌≤◌, ◌≡◌, ◌==◌, true, List, length, map, filter, sum_by, Some, slice_get}
 use Rattle.std.specs.List.{AllByRecursion as Every}
 use Rattle.pre_base.specs.declared.limits.TheConstants.{GAP, OVERHEAD}
 use Rattle.pre_streams.specs.declared.rows.Row.{Row}
@@ -10,7 +10,8 @@ use Rattle.pre_history.specs.Selected.{RingEntry}
 use Rattle.pre_history.specs.Queries.{Begins, Entries, Waiting}
 use Rattle.pre_bound.specs.Uses.{hop_of, is_on, rate_of}
 use Rattle.pre_bound.specs.Values.{Values}
-use Rattle.pre_delay.specs.Ticks.{is_from_to}
+use Rattle.pre_curve.specs.Windows.{Offer}
+use Rattle.pre_delay.specs.Ticks.{ObeysTicks}
 
 -- the number of a frame's row
 abbrev pub stream_of : Scenario → ℕ → ℕ
@@ -23,11 +24,13 @@ wire_of w f = length (FrameOf w f) + OVERHEAD
 abbrev pub wire : Scenario → RingEntry → ℕ
 wire w r = wire_of w r.frame
 
--- The frames of the stream of that number that come to a ring, entered or dropped, are within a burst and a rate: from each tick
--- to each later one they have at most the burst in wire octets, and the rate in 1,000,000 ticks.
+-- of these entries, drops among them, the frames of the stream of that number, as the wire carries them
+abbrev pub offers_among : Scenario → ℕ → List RingEntry → List Offer
+offers_among w i entries = map (λ r. record { tick = r.tick; octets = wire w r }) (filter (λ r. stream_of w r.frame == i) entries)
+
+-- The frames of the stream of that number that come to a ring, entered or dropped, are within a burst and a rate.
 abbrev pub StreamObeys : Scenario → History → (a p i burst rate : ℕ) → Type 0
-StreamObeys w h a p i burst rate =
-    (from to : ℕ) → from ≤ to → 1_000_000 * sum_by (wire w) (filter (λ r. is_from_to from to r.tick && (stream_of w r.frame == i)) (Entries h a p)) ≤ 1_000_000 * burst + rate * (to - from)
+StreamObeys w h a p i burst rate = ObeysTicks burst rate (offers_among w i (Entries h a p))
 
 -- So are those of each stream of this and the higher priorities, by the certified bursts at this hop.
 abbrev pub PortObeys : Scenario → History → Values → (a p : ℕ) → Type 0
