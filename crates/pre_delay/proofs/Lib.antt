@@ -27,4 +27,5 @@ pub mod Network
 pub mod Delivered
 pub mod Arrives
 pub mod Finished
+pub mod PairRun
 pub mod Reached

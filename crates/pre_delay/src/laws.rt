@@ -8,6 +8,7 @@ ghost use Rattle.pre_history.specs.Moments.{Phase};
 ghost use Rattle.pre_history.specs.Placed.{moment_of};
 ghost use Rattle.pre_history.specs.Queries.{Entries};
 ghost use Rattle.pre_history.specs.Selected.{RingEntry};
+ghost use Rattle.pre_base.specs.declared.limits.TheConstants.{OVERHEAD};
 ghost use Rattle.pre_streams.specs.declared.rows.Row.{Row};
 ghost use Rattle.pre_streams.specs.Fits.{Fits as StreamsFit};
 ghost use Rattle.pre_script.specs.Fits.{Fits as ScriptFits};
@@ -22,6 +23,8 @@ ghost use Rattle.pre_bound.specs.Good.{AreGood};
 ghost use Rattle.pre_bound.specs.Uses.{TakesAt, has_port, is_stream, rate_of};
 ghost use Rattle.pre_bound.specs.Values.{Values};
 ghost use Rattle.pre_delay.specs.Ports.{IsOnTime, PortIsTimely, PortObeys, StreamObeys, stream_of};
+ghost use Rattle.pre_history.specs.Examples.{LosesOneFrame, SendsFirst, SendsOneFrame, lost_frame, one_frame};
+ghost use Rattle.pre_delay.specs.Example.{pair_numbers};
 ghost use Rattle.pre_delay.specs.Runs.{IsRun, sends_of};
 ghost use Rattle.pre_delay.specs.Timely.{Timely, ticks_over};
 
@@ -44,8 +47,8 @@ pub fn busy_periods()
 /// frame's time, or that of a fragment that can't be cut, of the tick. It is no longer than what was unsent of its frame.
 pub fn blocks()
     ensures waited { (w : Scenario) (h : History) (b : Begin) (u size : ℕ) → 0 < (arc w b.arc).cost → b.tick < u → CutRule (ExpressWaits w h b.arc) (begun w h b) size
-        → ((x : ℕ) → u ≤ x → x < b.tick + (arc w b.arc).cost * (size + 20) → ExpressWaits w h b.arc x)
-        → b.tick + (arc w b.arc).cost * (size + 20) ≤ u + max (84 * (arc w b.arc).cost)
+        → ((x : ℕ) → u ≤ x → x < b.tick + (arc w b.arc).cost * (size + OVERHEAD) → ExpressWaits w h b.arc x)
+        → b.tick + (arc w b.arc).cost * (size + OVERHEAD) ≤ u + max (84 * (arc w b.arc).cost)
         ((arc w b.arc).cost * (64 * (1 + (arc w b.arc).add_frag) + 79)) }
     ensures own { (w : Scenario) (h : History) (b : Begin) (size : ℕ) → CutRule (ExpressWaits w h b.arc) (begun w h b) size → size ≤ (begun w h b).unsent }
 {}
@@ -91,3 +94,14 @@ pub fn network_law()
     ensures so_far { (w : Scenario) (v : Values) (n : ℕ) (h : History) → IsRun w → AreGood w.net w.streams.rows v → LegalUpTo w n h → Timely w h (ticks_over w n) v }
     ensures whole { (w : Scenario) (v : Values) (h : History) → IsRun w → AreGood w.net w.streams.rows v → Legal w h → Timely w h (w.script.until.0 + 1) v }
 {}
+
+/// The premises can be met: with the built-in network and streams, which fit it as `pair` ensures, a script that sends one frame is a
+/// run, the numbers of the certificate are good, and the run is timely, also where the frame is lost.
+pub fn premises_can_be_met()
+    ensures run { (w : Scenario) → SendsFirst w → StreamsFit w.net w.streams → IsRun w }
+    ensures good { (w : Scenario) → SendsFirst w → AreGood w.net w.streams.rows pair_numbers }
+    ensures timely { (w : Scenario) → SendsOneFrame w → StreamsFit w.net w.streams → Timely w (one_frame w) 5001 pair_numbers }
+    ensures lost { (w : Scenario) → LosesOneFrame w → StreamsFit w.net w.streams → Timely w (lost_frame w) 5001 pair_numbers }
+{
+    pre_history::small_histories_are_legal();
+}

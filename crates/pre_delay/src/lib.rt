@@ -5,5 +5,5 @@ mod laws;
 
 pub use laws::{
     blocks, bursts_grow, busy_periods, files_make_a_run, growth_law, network_law, port_law,
-    windows_are_ticks,
+    premises_can_be_met, windows_are_ticks,
 };
