@@ -26,7 +26,9 @@ use Rattle.pre_history.proofs.Turns.{tick_lt}
 use Rattle.pre_history.proofs.InOrder.{steady}
 use Rattle.pre_history.proofs.Grounds.{entries_before}
 use Rattle.pre_delay.specs.Runs.{IsRun}
-use Rattle.pre_delay.proofs.Once.{HighBefore, coming_to, entries_came, one_begin, one_tick}
+use Rattle.pre_delay.proofs.Once.{HighBefore, one_begin, one_tick}
+use Rattle.pre_laws.proofs.Once.{coming_to}
+use Rattle.pre_delay.proofs.Rings.{entries_came}
 use Rattle.pre_delay.proofs.Known.{comer_on, high_before, known_on, routes}
 
 -- the moment of a tick at which frames come to rings

@@ -40,7 +40,8 @@ use Rattle.pre_delay.proofs.Windows.{obeys_ticks}
 use Rattle.pre_delay.proofs.Hop.{hop_grows}
 use Rattle.pre_delay.proofs.Seen.{as_queued}
 use Rattle.pre_delay.proofs.Certified.{is_yes}
-use Rattle.pre_delay.proofs.Once.{coming_to, hop_before}
+use Rattle.pre_delay.proofs.Once.{hop_before}
+use Rattle.pre_laws.proofs.Once.{coming_to}
 use Rattle.pre_delay.proofs.Apart.{OtherFrame, comers}
 use Rattle.pre_delay.proofs.Entering.{entering, told_entries}
 use Rattle.pre_delay.proofs.Known.{read_any}

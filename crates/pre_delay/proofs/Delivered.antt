@@ -36,9 +36,10 @@ use Rattle.pre_bound.proofs.Hops.{TakesAt-hop_of, TakesAt-place, TakesAt-from}
 use Rattle.pre_delay.specs.Ports.{stream_of, wire}
 use Rattle.pre_delay.proofs.Port.{IsKnown}
 use Rattle.pre_delay.specs.Runs.{IsRun}
-use Rattle.pre_delay.proofs.Rings.{front_of_ring}
+use Rattle.pre_delay.proofs.Rings.{entries_came, front_of_ring}
 use Rattle.pre_delay.proofs.Sent.{express_begins}
-use Rattle.pre_delay.proofs.Once.{coming_to, entries_came, hop_before}
+use Rattle.pre_delay.proofs.Once.{hop_before}
+use Rattle.pre_laws.proofs.Once.{coming_to}
 use Rattle.pre_delay.proofs.Known.{begun_high, read_any, known, routes, hop_within}
 use Rattle.pre_delay.proofs.Bursts.{AllLeft, by_relay, taken_at}
 use Rattle.pre_delay.proofs.OnePort.{rules, row_high, below, port_of, timely}

@@ -36,8 +36,9 @@ use Rattle.pre_script.specs.Fits.{Fits as ScriptFits}
 use Rattle.pre_curve.specs.declared.curves.Curve.{Curve}
 use Rattle.pre_curve.specs.Windows.{Obeys, offers_of}
 use Rattle.pre_bound.specs.Settled.{PriosBelow}
-use Rattle.pre_delay.proofs.Rings.{entries_prio}
-use Rattle.pre_delay.proofs.Once.{HighBefore, entries_came, coming_to, fresh}
+use Rattle.pre_delay.proofs.Rings.{entries_came, entries_prio}
+use Rattle.pre_delay.proofs.Once.{HighBefore, fresh}
+use Rattle.pre_laws.proofs.Once.{coming_to}
 
 -- ---- routes
 

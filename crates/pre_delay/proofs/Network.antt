@@ -1,6 +1,6 @@
 -- A whole run under a good certificate, moment by moment: what comes to each hop is within the certified bursts.
-use Rattle.std.proofs.Common.{ℕ, zero, suc, Bool, true, false, ◌==◌, ◌&&◌, ◌≡◌, ◌≢◌, ◌+◌, ◌-◌, ◌*◌, ◌/◌, ◌%◌, ◌<◌, ◌≤◌, List, ◌++◌, length, refl, sym, ◌∙◌, ap, arith, inl, inr, subst, Option, Some, None, get_or}
-use Rattle.std.specs.Prelude.{slice_get, is_some, if◌then◌else◌}
+use Rattle.std.proofs.Common.{ℕ, zero, suc, true, ◌≡◌, ◌≢◌, ◌+◌, ◌-◌, ◌*◌, ◌/◌, ◌%◌, ◌<◌, ◌≤◌, List, ◌++◌, length, refl, sym, ◌∙◌, ap, arith, inl, inr, subst, Option, Some, None, get_or}
+use Rattle.std.specs.Prelude.{slice_get, is_some}
 use Rattle.std.specs.Option.{option_map_or}
 use Rattle.std.specs.List.{AllByRecursion as Every}
 use Rattle.std.proofs.Math.Nat.{mul-le-mul_left, mul-le-mul_right}
@@ -10,12 +10,12 @@ use Rattle.pre_curve.specs.declared.curves.Curve.{Curve}
 use Rattle.pre_streams.specs.declared.rows.Row.{Row}
 use Rattle.pre_history.specs.Scenario.{Scenario, arc, row}
 use Rattle.pre_history.specs.Moments.{Phase, moments, phase_at}
-use Rattle.pre_history.specs.History.{Begin, Entry, History, PlainEvent}
+use Rattle.pre_history.specs.History.{Begin, History}
 use Rattle.pre_history.specs.Selected.{RingEntry, begin_on, entry_on, what_is}
 use Rattle.pre_history.specs.Queries.{Begins, Entries}
 use Rattle.pre_history.specs.Comings.{Comings, EntriesOf}
 use Rattle.pre_history.specs.Rules.{HappensIn}
-use Rattle.pre_history.specs.Placed.{HasPlace, number, AllAt, AllWithin, IsAt, IsWithin}
+use Rattle.pre_history.specs.Placed.{HasPlace, number, AllAt, AllWithin, IsWithin}
 use Rattle.pre_history.specs.Cuts.{IsCut}
 use Rattle.pre_history.specs.Legal.{LegalUpTo}
 use Rattle.pre_history.proofs.Lists.{every-append, every_at, every_selected, every_weaker}
@@ -33,7 +33,7 @@ use Rattle.pre_bound.proofs.Hops.{OnArc-from, TakesAt-hop_of, TakesAt-place, Tak
 use Rattle.pre_delay.specs.Ports.{stream_of, IsOnTime}
 use Rattle.pre_delay.proofs.Port.{RingObeys, RingsObey, HopsObey}
 use Rattle.pre_delay.specs.Runs.{IsRun}
-use Rattle.pre_delay.proofs.Rings.{entries_prio}
+use Rattle.pre_delay.proofs.Rings.{entries_prio, entry_now}
 use Rattle.pre_delay.proofs.Sent.{express_begins}
 use Rattle.pre_delay.proofs.Seen.{some-begun}
 use Rattle.pre_delay.proofs.Certified.{is_yes}
@@ -46,31 +46,10 @@ curve_of : (o : Option Curve) → is_some o ≡ true → (c : Curve) × (o ≡ S
 curve_of None on = absurd (cc on)
 curve_of (Some c) on = (c, refl)
 
--- at which moment an entry stands
-module _ (arcs k a p : ℕ) where
-  taken : (e : Entry) (entered b : Bool) (r : RingEntry) → k ≡ number arcs e.tick (1 + 3 * arcs) → (if b then Some (record { tick = e.tick; frame = e.frame; entered = entered }) else None) ≡ Some r → k ≡ number arcs r.tick (1 + 3 * arcs)
-  taken e entered true r at is =
-      let made : RingEntry = record { tick = e.tick; frame = e.frame; entered = entered } in
-      let same : made ≡ r = cc is in
-      subst (λ (x : RingEntry). k ≡ number arcs x.tick (1 + 3 * arcs)) same at
-  taken e entered false r at is = absurd (cc is)
-
-  entry_at : (e : PlainEvent) (r : RingEntry) → IsAt arcs k e → entry_on a p e ≡ Some r → k ≡ number arcs r.tick (1 + 3 * arcs)
-  entry_at (PlainEvent.enter e) r at is = taken e true ((e.arc == a) && (e.prio == p)) r at is
-  entry_at (PlainEvent.dropped e) r at is = taken e false ((e.arc == a) && (e.prio == p)) r at is
-  entry_at (PlainEvent.set t b v) r at is = absurd (cc is)
-  entry_at (PlainEvent.begin b) r at is = absurd (cc is)
-  entry_at (PlainEvent.ended b) r at is = absurd (cc is)
-  entry_at (PlainEvent.arrive b) r at is = absurd (cc is)
-  entry_at (PlainEvent.deliver b) r at is = absurd (cc is)
-  entry_at (PlainEvent.active t b v) r at is = absurd (cc is)
-  entry_at (PlainEvent.count t b) r at is = absurd (cc is)
-  entry_at (PlainEvent.end b) r at is = absurd (cc is)
-
 entries_within : (arcs m n a p : ℕ) (es : History) → AllWithin arcs m n es → (j : ℕ) (r : RingEntry) → slice_get (Entries es a p) j ≡ Some r → m ≤ number arcs r.tick (1 + 3 * arcs)
 entries_within arcs m n a p es within j r at =
     every_at (λ (r : RingEntry). m ≤ number arcs r.tick (1 + 3 * arcs)) (Entries es a p) j r
-    (every_selected (entry_on a p) (IsWithin arcs m n) (λ r. m ≤ number arcs r.tick (1 + 3 * arcs)) (λ e r here is. let o = entry_at arcs here.0 a p e r here.3 is in omega (arith, o, here.1)) es within) at
+    (every_selected (entry_on a p) (IsWithin arcs m n) (λ r. m ≤ number arcs r.tick (1 + 3 * arcs)) (λ e r here is. let o = entry_now arcs here.0 a p e r here.3 is in omega (arith, o, here.1)) es within) at
 
 module _ (w : Scenario) (v : Values) (run : IsRun w) (good : AreGood w.net w.streams.rows v) where
   pub port_obeys : (h : History) (a p : ℕ) → HopsObey w h v → RingsObey w h v a p

@@ -1,136 +1,30 @@
 -- In each legal history a frame of an express priority begins on an arc once, and comes to its ring at one tick.
-use Rattle.std.proofs.Common.{ℕ, zero, suc, Bool, true, false, ◌==◌, ◌≡◌, ◌≢◌, ◌+◌, ◌*◌, ◌/◌, ◌%◌, ◌<◌, ◌≤◌, List, [], ◌∷◌, ◌++◌, length, map, refl, sym, ◌∙◌, ap, inl, inr, arith, subst, Some, None}
-use Rattle.std.specs.Prelude.{slice_get, if◌then◌else◌, AllPairs, ◌&&◌}
-use Rattle.std.specs.List.{AllByRecursion as Every}
-use Rattle.std.proofs.lemmas.Bool.{cases_Bool, cases_order, and_parts}
+use Rattle.std.proofs.Common.{ℕ, zero, suc, true, false, ◌==◌, ◌≡◌, ◌≢◌, ◌+◌, ◌*◌, ◌<◌, ◌≤◌, List, [], ◌∷◌, length, map, sym, ◌∙◌, ap, inl, inr, arith, subst, Some}
+use Rattle.std.specs.Prelude.{slice_get, AllPairs}
+use Rattle.std.proofs.lemmas.Bool.{cases_Bool, cases_order}
 use Rattle.std.proofs.lemmas.Bool.Decides.{nat_tests}
 use Rattle.std.proofs.Math.Nat.{mul-le-mul_left}
 use Rattle.pre_base.specs.declared.numbers.FrameNo.{FrameNo}
 use Rattle.pre_history.specs.declared.events.What.TheVariants as what
-use Rattle.pre_history.specs.Scenario.{Scenario, FrameOf, arc, row, latency, capacity}
-use Rattle.pre_history.specs.Moments.{Phase, moments, phase_at}
-use Rattle.pre_history.specs.History.{PlainEvent, History, Begin, Arrive, Entry}
-use Rattle.pre_history.specs.Selected.{RingEntry, entry_on, what_is}
+use Rattle.pre_history.specs.Scenario.{Scenario, FrameOf, arc, row, latency}
+use Rattle.pre_history.specs.History.{History, Begin, Arrive}
+use Rattle.pre_history.specs.Selected.{RingEntry, what_is}
 use Rattle.pre_history.specs.Queries.{Begins, Ends, Arrivals, Entries, Waiting, begun_before}
 use Rattle.pre_history.specs.Octets.{whole_of}
 use Rattle.pre_history.specs.Starts.{SizeOf}
-use Rattle.pre_history.specs.Comings.{Coming, Comings, EntriesOf, entry_event, entry_for, hops, next_arc}
-use Rattle.pre_history.specs.Rules.{HappensIn}
-use Rattle.pre_history.specs.Placed.{HasPlace, number, IsAt, AllAt}
+use Rattle.pre_history.specs.Comings.{Coming, hops, next_arc}
 use Rattle.pre_history.specs.Legal.{LegalUpTo}
-use Rattle.pre_history.proofs.Lists.{every-append, every_weaker, every_at, every_selected, one_at, within, there}
-use Rattle.pre_history.proofs.Placing.{same_place, moment_events, place_at, place_below, numbered}
-use Rattle.pre_history.proofs.Relays.{ComesBy, IsSent, IsRelayed, comes_later, comings_by}
+use Rattle.pre_history.proofs.Lists.{every_at, one_at, within, there}
+use Rattle.pre_history.proofs.Relays.{ComesBy, IsSent, IsRelayed}
 use Rattle.pre_history.proofs.Steady.{costs}
 use Rattle.pre_history.proofs.InOrder.{steady}
 use Rattle.pre_history.proofs.Chosen.{into_map}
 use Rattle.pre_delay.proofs.Arcs.{Served, InLine}
-use Rattle.pre_delay.proofs.Rings.{front_of_ring, entries_prio}
+use Rattle.pre_delay.proofs.Rings.{entries_came, entries_prio, front_of_ring}
+use Rattle.pre_laws.proofs.Once.{coming_to}
 use Rattle.pre_history.proofs.Routes.{one_before, not_first}
 use Rattle.pre_delay.proofs.Sent.{express_begins}
 use Rattle.pre_delay.proofs.Seen.{as_sent, begun-some, some-begun, what-frame, sent-line}
-
--- ---- what enters came by a send or a relay
-
-abbrev pub coming_to : ℕ → ℕ → Coming
-coming_to a f = record { arc = a; frame = f }
-
-abbrev pub Came : Scenario → History → PlainEvent → Type 0
-Came w h (PlainEvent.enter e) = ComesBy w h e.tick (coming_to e.arc e.frame)
-Came w h (PlainEvent.dropped e) = ComesBy w h e.tick (coming_to e.arc e.frame)
-Came w h (PlainEvent.begin b) = Unit {0}
-Came w h (PlainEvent.set t a v) = Unit {0}
-Came w h (PlainEvent.ended e) = Unit {0}
-Came w h (PlainEvent.arrive x) = Unit {0}
-Came w h (PlainEvent.deliver d) = Unit {0}
-Came w h (PlainEvent.active t a v) = Unit {0}
-Came w h (PlainEvent.count a c) = Unit {0}
-Came w h (PlainEvent.end e) = Unit {0}
-
-came_later : (w : Scenario) (past es : History) (e : PlainEvent) → Came w past e → Came w (past ++ es) e
-came_later w past es (PlainEvent.enter e) g = comes_later w past es e.tick (coming_to e.arc e.frame) g
-came_later w past es (PlainEvent.dropped e) g = comes_later w past es e.tick (coming_to e.arc e.frame) g
-came_later w past es (PlainEvent.begin b) g = tt
-came_later w past es (PlainEvent.set t a v) g = tt
-came_later w past es (PlainEvent.ended e) g = tt
-came_later w past es (PlainEvent.arrive x) g = tt
-came_later w past es (PlainEvent.deliver d) g = tt
-came_later w past es (PlainEvent.active t a v) g = tt
-came_later w past es (PlainEvent.count a c) g = tt
-came_later w past es (PlainEvent.end e) g = tt
-
-no_entry : (w : Scenario) (h : History) (arcs t k : ℕ) → k < moments arcs → k ≢ 1 + 3 * arcs → (e : PlainEvent) → IsAt arcs (number arcs t k) e → Came w h e
-no_entry w h arcs t k below other (PlainEvent.enter e) at = absurd (other (same_place arcs t e.tick k (1 + 3 * arcs) below (omega arith) at))
-no_entry w h arcs t k below other (PlainEvent.dropped e) at = absurd (other (same_place arcs t e.tick k (1 + 3 * arcs) below (omega arith) at))
-no_entry w h arcs t k below other (PlainEvent.begin b) at = tt
-no_entry w h arcs t k below other (PlainEvent.set s a v) at = tt
-no_entry w h arcs t k below other (PlainEvent.ended e) at = tt
-no_entry w h arcs t k below other (PlainEvent.arrive x) at = tt
-no_entry w h arcs t k below other (PlainEvent.deliver d) at = tt
-no_entry w h arcs t k below other (PlainEvent.active s a v) at = tt
-no_entry w h arcs t k below other (PlainEvent.count a c) at = tt
-no_entry w h arcs t k below other (PlainEvent.end e) at = tt
-
-entry_came : (w : Scenario) (base : History) (t : ℕ) (c : Coming) (b : Bool) → ComesBy w base t c → Came w base (if b then PlainEvent.dropped (entry_for w t c) else PlainEvent.enter (entry_for w t c))
-entry_came w base t c true by = by
-entry_came w base t c false by = by
-
-entries_come : (w : Scenario) (base : History) (t : ℕ) (h : History) (cs : List Coming) → Every (ComesBy w base t) cs → Every (Came w base) (EntriesOf w t h cs)
-entries_come w base t h [] by = tt
-entries_come w base t h (c ∷ cs) (here, more) =
-    (entry_came w base t c (length (Waiting h c.arc (row w c.frame).prio t) == capacity w c.arc (row w c.frame).prio) here, entries_come w base t (h ++ entry_event w t h c ∷ []) cs more)
-
-module _ (w : Scenario) (past es : History) (t k : ℕ) (below : k < moments (length w.net.arcs)) (at : AllAt (length w.net.arcs) (number (length w.net.arcs) t k) es) where
-  none : k ≢ 1 + 3 * length w.net.arcs → Every (Came w (past ++ es)) es
-  none other = every_weaker (IsAt (length w.net.arcs) (number (length w.net.arcs) t k)) (Came w (past ++ es)) (no_entry w (past ++ es) (length w.net.arcs) t k below other) es at
-
-  phase_came : (p : Phase) → HasPlace (length w.net.arcs) k p → HappensIn w past t p es → Every (Came w (past ++ es)) es
-  unfolding HappensIn
-  phase_came Phase.sets place is = none (λ e. absurd (omega arith))
-  phase_came (Phase.ends a) (lt, place) is = none (λ e. absurd (omega arith))
-  phase_came (Phase.arrivals a) (lt, place) is = none (λ e. absurd (omega arith))
-  phase_came (Phase.expiries a) (lt, place) is = none (λ e. absurd (omega arith))
-  phase_came Phase.entries place is = every_weaker (Came w past) (Came w (past ++ es)) (came_later w past es) es (subst (Every (Came w past)) (sym is) (entries_come w past t past (Comings w past t) (comings_by w past t)))
-  phase_came (Phase.starts a) (lt, place) is = none (λ e. absurd (omega arith))
-
-pub all_came : (w : Scenario) (n : ℕ) (h : History) → LegalUpTo w n h → Every (Came w h) h
-all_came w zero h is = subst (λ x. Every (Came w x) x) (sym is) tt
-all_came w (suc n) h (past, es, is, legal, happens) =
-    let A = length w.net.arcs in
-    let t = n / moments A in
-    let k = n % moments A in
-    subst (λ x. Every (Came w x) x) (sym is) (every-append (Came w (past ++ es)) past es
-    (every_weaker (Came w past) (Came w (past ++ es)) (came_later w past es) past (all_came w n past legal))
-    (phase_came w past es t k (place_below A n) (subst (λ m. AllAt A m es) (numbered A n) (moment_events w past n es happens)) (phase_at A k) (place_at A n) happens))
-
-entry_by : (w : Scenario) (h : History) (a p : ℕ) (e : Entry) (b : Bool) (r : RingEntry) → ComesBy w h e.tick (coming_to e.arc e.frame)
-    → (if (e.arc == a) && (e.prio == p) then Some (record { tick = e.tick; frame = e.frame; entered = b }) else None) ≡ Some r → ComesBy w h r.tick (coming_to a r.frame)
-entry_by w h a p e b r by is = go ((e.arc == a) && (e.prio == p)) refl is
-  where
-    go : (c : Bool) → ((e.arc == a) && (e.prio == p)) ≡ c → (if c then Some (record { tick = e.tick; frame = e.frame; entered = b }) else None) ≡ Some r → ComesBy w h r.tick (coming_to a r.frame)
-    go false off at = absurd (cc at)
-    go true on at =
-        let parts = and_parts (e.arc == a) (e.prio == p) on in
-        let arc_is : e.arc ≡ a = grind (arith, nat_tests, parts.0) in
-        let made : RingEntry = record { tick = e.tick; frame = e.frame; entered = b } in
-        let same : made ≡ r = cc at in
-        subst (λ (x : RingEntry). ComesBy w h x.tick (coming_to a x.frame)) same (subst (λ k. ComesBy w h e.tick (coming_to k e.frame)) arc_is by)
-
-ring_came : (w : Scenario) (h : History) (a p : ℕ) (e : PlainEvent) (r : RingEntry) → Came w h e → entry_on a p e ≡ Some r → ComesBy w h r.tick (coming_to a r.frame)
-ring_came w h a p (PlainEvent.enter e) r by is = entry_by w h a p e true r by is
-ring_came w h a p (PlainEvent.dropped e) r by is = entry_by w h a p e false r by is
-ring_came w h a p (PlainEvent.set t b v) r by is = absurd (cc is)
-ring_came w h a p (PlainEvent.begin b) r by is = absurd (cc is)
-ring_came w h a p (PlainEvent.ended b) r by is = absurd (cc is)
-ring_came w h a p (PlainEvent.arrive b) r by is = absurd (cc is)
-ring_came w h a p (PlainEvent.deliver b) r by is = absurd (cc is)
-ring_came w h a p (PlainEvent.active t b v) r by is = absurd (cc is)
-ring_came w h a p (PlainEvent.count t b) r by is = absurd (cc is)
-ring_came w h a p (PlainEvent.end b) r by is = absurd (cc is)
-
--- what came to a ring came by a send or a relay
-pub entries_came : (w : Scenario) (n : ℕ) (h : History) (a p : ℕ) → LegalUpTo w n h → Every (λ (r : RingEntry). ComesBy w h r.tick (coming_to a r.frame)) (Entries h a p)
-entries_came w n h a p legal = every_selected (entry_on a p) (Came w h) (λ r. ComesBy w h r.tick (coming_to a r.frame)) (ring_came w h a p) h (all_came w n h legal)
 
 -- ---- once
 

@@ -32,12 +32,12 @@ use Rattle.pre_bound.proofs.Hops.{OnArc-from, TakesAt-hop_of, has_arc-from_port,
 use Rattle.pre_delay.specs.Ports.{IsOnTime, PortIsTimely}
 use Rattle.pre_delay.proofs.Port.{RingsObey, IsKnown, IsPort, ComesTo}
 use Rattle.pre_delay.specs.Runs.{IsRun}
-use Rattle.pre_delay.proofs.Rings.{entries_prio}
+use Rattle.pre_delay.proofs.Rings.{entries_came, entries_prio}
 use Rattle.pre_delay.proofs.Sent.{express_begins}
 use Rattle.pre_delay.proofs.Seen.{some-begun}
 use Rattle.pre_delay.proofs.Certified.{is_yes, on_time}
 use Rattle.pre_delay.proofs.Room.{AreFresh, have_room, queue_within}
-use Rattle.pre_delay.proofs.Once.{coming_to, entries_came}
+use Rattle.pre_laws.proofs.Once.{coming_to}
 use Rattle.pre_delay.proofs.Known.{read_any, carried_known, comer_on, is_fresh, known, known_on, hop_within, stream_high}
 use Rattle.pre_delay.proofs.Apart.{entries_moment, comers, IsComer, every_comer, same_entries}
 use Rattle.pre_delay.proofs.Bursts.{KnownToCome, front_obeys, told_obeys}

@@ -1,116 +1,106 @@
 -- What stands in a ring: in order of its ticks, of the ring's priority, and the first of it that waits at the front.
-use Rattle.std.proofs.Common.{ℕ, zero, suc, ◌≡◌, ◌≢◌, ◌==◌, ◌&&◌, not, nat_le, ◌+◌, ◌*◌, ◌/◌, ◌%◌, ◌<◌, ◌≤◌, Bool, true, false, List, [], ◌∷◌, ◌++◌, length, refl, sym, ◌∙◌, ap, arith, subst, Some, None, map, filter}
+use Rattle.std.proofs.Common.{inl, inr, ◌⊎◌, ℕ, zero, suc, ◌≡◌, ◌≢◌, ◌==◌, ◌&&◌, not, nat_le, ◌+◌, ◌*◌, ◌<◌, ◌≤◌, Bool, true, false, List, [], ◌∷◌, length, refl, sym, ◌∙◌, ap, arith, subst, Some, None, map, filter}
 use Rattle.std.specs.Prelude.{if◌then◌else◌, slice_get}
 use Rattle.std.specs.List.{AllByRecursion as Every}
 use Rattle.std.proofs.lemmas.Bool.{and_parts, and_from, le-leb}
 use Rattle.std.proofs.lemmas.Bool.Decides.{nat_tests}
 use Rattle.std.proofs.lemmas.List.Elements.{filter_map-append}
-use Rattle.pre_history.specs.Scenario.{Scenario, row, capacity}
-use Rattle.pre_history.specs.History.{PlainEvent, History}
-use Rattle.pre_history.specs.Moments.{Phase, moments, phase_at}
-use Rattle.pre_history.specs.Placed.{HasPlace, number, IsAt, AllAt}
+use Rattle.pre_history.specs.Scenario.{Scenario, row}
+use Rattle.pre_history.specs.History.{Entry, PlainEvent, History}
+use Rattle.pre_history.specs.Moments.{moments}
+use Rattle.pre_history.specs.Placed.{number, IsAt, IsBefore}
 use Rattle.pre_history.specs.Selected.{RingEntry, entry_on}
 use Rattle.pre_history.specs.Queries.{Entries, begun_before, Waiting}
-use Rattle.pre_history.specs.Comings.{Coming, Comings, EntriesOf, entry_event, entry_for}
-use Rattle.pre_history.specs.Rules.{HappensIn}
+use Rattle.pre_history.specs.Comings.{Comings}
 use Rattle.pre_history.specs.Legal.{LegalUpTo}
-use Rattle.pre_history.proofs.Lists.{every-append, every_weaker, every_selected}
+use Rattle.pre_history.proofs.Lists.{any_at, every_at, every_placed, every_weaker, every_selected}
 use Rattle.pre_history.proofs.Pairs.{Pairs, pairs-append}
-use Rattle.pre_history.proofs.Placing.{moment_events, numbered, place_below, place_at, same_place, placed}
+use Rattle.pre_history.proofs.Placing.{moment_events, placed}
 use Rattle.pre_history.proofs.Turns.{tick_le}
 use Rattle.pre_history.proofs.Grounds.{entries_before}
+use Rattle.pre_history.proofs.EntriesRead.{entries_come}
+use Rattle.pre_history.proofs.Relays.{ComesBy, comings_by}
+use Rattle.pre_history.specs.Read.{IsTold}
+use Rattle.pre_laws.proofs.Once.{coming_to}
 
--- ---- priorities
+-- ---- what stands in a ring
 
--- what enters does so in the ring of its priority
-abbrev pub PrioRight : Scenario → PlainEvent → Type 0
-PrioRight w (PlainEvent.enter e) = e.prio ≡ (row w e.frame).prio
-PrioRight w (PlainEvent.begin b) = Unit {0}
-PrioRight w (PlainEvent.dropped e) = Unit {0}
-PrioRight w (PlainEvent.set t a v) = Unit {0}
-PrioRight w (PlainEvent.ended e) = Unit {0}
-PrioRight w (PlainEvent.arrive x) = Unit {0}
-PrioRight w (PlainEvent.deliver d) = Unit {0}
-PrioRight w (PlainEvent.active t a v) = Unit {0}
-PrioRight w (PlainEvent.count a c) = Unit {0}
-PrioRight w (PlainEvent.end e) = Unit {0}
+-- the entry or drop that an event of the ring tells
+record IsOf (a p : ℕ) (x : PlainEvent) (r : RingEntry) : Type 0 where
+  entry : Entry
+  event : (x ≡ PlainEvent.enter entry) ⊎ (x ≡ PlainEvent.dropped entry)
+  arc : entry.arc ≡ a
+  prio : entry.prio ≡ p
+  frame : entry.frame ≡ r.frame
+  tick : entry.tick ≡ r.tick
 
-entry_right : (w : Scenario) (t : ℕ) (c : Coming) (b : Bool) → PrioRight w (if b then PlainEvent.dropped (entry_for w t c) else PlainEvent.enter (entry_for w t c))
-entry_right w t c true = tt
-entry_right w t c false = refl
+ring_one : (a p : ℕ) (x : PlainEvent) (e : Entry) (entered : Bool) (r : RingEntry) → (x ≡ PlainEvent.enter e) ⊎ (x ≡ PlainEvent.dropped e) → (b : Bool) → ((e.arc == a) && (e.prio == p)) ≡ b
+    → (if b then Some (record { tick = e.tick; frame = e.frame; entered = entered }) else None) ≡ Some r → IsOf a p x r
+ring_one a p x e entered r event false off is = absurd (cc is)
+ring_one a p x e entered r event true on is =
+    let parts = and_parts (e.arc == a) (e.prio == p) on in
+    let made : RingEntry = record { tick = e.tick; frame = e.frame; entered = entered } in
+    let same : made ≡ r = cc is in
+    record {
+      entry = e;
+      event = event;
+      arc = grind (arith, nat_tests, parts.0);
+      prio = grind (arith, nat_tests, parts.1);
+      frame = ap (λ (y : RingEntry). y.frame) same;
+      tick = ap (λ (y : RingEntry). y.tick) same;
+    }
 
-entries_right : (w : Scenario) (t : ℕ) (h : History) (cs : List Coming) → Every (PrioRight w) (EntriesOf w t h cs)
-entries_right w t h [] = tt
-entries_right w t h (c ∷ cs) =
-    (entry_right w t c (length (Waiting h c.arc (row w c.frame).prio t) == capacity w c.arc (row w c.frame).prio), entries_right w t (h ++ entry_event w t h c ∷ []) cs)
+ring_event : (a p : ℕ) (x : PlainEvent) (r : RingEntry) → entry_on a p x ≡ Some r → IsOf a p x r
+ring_event a p (PlainEvent.enter e) r is = ring_one a p (PlainEvent.enter e) e true r (inl refl) ((e.arc == a) && (e.prio == p)) refl is
+ring_event a p (PlainEvent.dropped e) r is = ring_one a p (PlainEvent.dropped e) e false r (inr refl) ((e.arc == a) && (e.prio == p)) refl is
+ring_event a p (PlainEvent.set t b v) r is = absurd (cc is)
+ring_event a p (PlainEvent.begin b) r is = absurd (cc is)
+ring_event a p (PlainEvent.ended b) r is = absurd (cc is)
+ring_event a p (PlainEvent.arrive b) r is = absurd (cc is)
+ring_event a p (PlainEvent.deliver b) r is = absurd (cc is)
+ring_event a p (PlainEvent.active t b v) r is = absurd (cc is)
+ring_event a p (PlainEvent.count t b) r is = absurd (cc is)
+ring_event a p (PlainEvent.end b) r is = absurd (cc is)
 
-no_entry : (w : Scenario) (arcs t k : ℕ) → k < moments arcs → k ≢ 1 + 3 * arcs → (e : PlainEvent) → IsAt arcs (number arcs t k) e → PrioRight w e
-no_entry w arcs t k below other (PlainEvent.enter e) at = absurd (other (same_place arcs t e.tick k (1 + 3 * arcs) below (omega arith) at))
-no_entry w arcs t k below other (PlainEvent.begin b) at = tt
-no_entry w arcs t k below other (PlainEvent.dropped e) at = tt
-no_entry w arcs t k below other (PlainEvent.set s a v) at = tt
-no_entry w arcs t k below other (PlainEvent.ended e) at = tt
-no_entry w arcs t k below other (PlainEvent.arrive x) at = tt
-no_entry w arcs t k below other (PlainEvent.deliver d) at = tt
-no_entry w arcs t k below other (PlainEvent.active s a v) at = tt
-no_entry w arcs t k below other (PlainEvent.count a c) at = tt
-no_entry w arcs t k below other (PlainEvent.end e) at = tt
+-- it came by a send or a relay, and has the ring's priority
+abbrev CameRight : Scenario → History → (a p : ℕ) → RingEntry → Type 0
+CameRight w h a p r = ComesBy w h r.tick (coming_to a r.frame) × (p ≡ (row w r.frame).prio)
 
-phase_right : (w : Scenario) (past es : History) (t k : ℕ) → k < moments (length w.net.arcs) → AllAt (length w.net.arcs) (number (length w.net.arcs) t k) es
-    → (p : Phase) → HasPlace (length w.net.arcs) k p → HappensIn w past t p es → Every (PrioRight w) es
-unfolding HappensIn
-phase_right w past es t k below at Phase.sets place is = every_weaker (IsAt (length w.net.arcs) (number (length w.net.arcs) t k)) (PrioRight w) (no_entry w (length w.net.arcs) t k below (λ e. absurd (omega arith))) es at
-phase_right w past es t k below at (Phase.ends a) (lt, place) is = every_weaker (IsAt (length w.net.arcs) (number (length w.net.arcs) t k)) (PrioRight w) (no_entry w (length w.net.arcs) t k below (λ e. absurd (omega arith))) es at
-phase_right w past es t k below at (Phase.arrivals a) (lt, place) is = every_weaker (IsAt (length w.net.arcs) (number (length w.net.arcs) t k)) (PrioRight w) (no_entry w (length w.net.arcs) t k below (λ e. absurd (omega arith))) es at
-phase_right w past es t k below at (Phase.expiries a) (lt, place) is = every_weaker (IsAt (length w.net.arcs) (number (length w.net.arcs) t k)) (PrioRight w) (no_entry w (length w.net.arcs) t k below (λ e. absurd (omega arith))) es at
-phase_right w past es t k below at Phase.entries place is = subst (Every (PrioRight w)) (sym is) (entries_right w t past (Comings w past t))
-phase_right w past es t k below at (Phase.starts a) (lt, place) is = every_weaker (IsAt (length w.net.arcs) (number (length w.net.arcs) t k)) (PrioRight w) (no_entry w (length w.net.arcs) t k below (λ e. absurd (omega arith))) es at
+module _ (w : Scenario) (n : ℕ) (h : History) (legal : LegalUpTo w n h) where
+  event_came : (a p i : ℕ) (x : PlainEvent) (r : RingEntry) → slice_get h i ≡ Some x → IsOf a p x r → CameRight w h a p r
+  event_came a p i x r at o =
+      let e = o.entry in
+      let c = entries_come w n h e.tick legal (before o.event (every_at (IsBefore (length w.net.arcs) n) h i x (placed w n h legal) at)) e refl (told o.event) in
+      let by = every_at (ComesBy w h e.tick) (Comings w h e.tick) c.0 c.1 (comings_by w h e.tick) c.2 in
+      let arc_is : c.1.arc ≡ a = ap (λ (y : Entry). y.arc) c.3 ∙ o.arc in
+      let frame_is : c.1.frame ≡ r.frame = ap (λ (y : Entry). y.frame) c.3 ∙ o.frame in (
+        subst (λ t. ComesBy w h t (coming_to a r.frame)) o.tick (subst (λ f. ComesBy w h e.tick (coming_to a f)) frame_is (subst (λ b. ComesBy w h e.tick (coming_to b c.1.frame)) arc_is by)),
+        sym (ap (λ (y : Entry). y.prio) c.3 ∙ o.prio) ∙ ap (λ f. (row w f).prio) frame_is,
+      )
+    where
+      told : {e : Entry} → (x ≡ PlainEvent.enter e) ⊎ (x ≡ PlainEvent.dropped e) → IsTold h (PlainEvent.enter e) ⊎ IsTold h (PlainEvent.dropped e)
+      told {e} (inl is) = inl (any_at (λ y. y ≡ PlainEvent.enter e) h i x at is)
+      told {e} (inr is) = inr (any_at (λ y. y ≡ PlainEvent.dropped e) h i x at is)
 
-pub all_right : (w : Scenario) (n : ℕ) (h : History) → LegalUpTo w n h → Every (PrioRight w) h
-all_right w zero h is = subst (Every (PrioRight w)) (sym is) tt
-all_right w (suc n) h (past, es, is, legal, happens) =
-    let A = length w.net.arcs in
-    let t = n / moments A in
-    let k = n % moments A in
-    subst (Every (PrioRight w)) (sym is) (every-append (PrioRight w) past es (all_right w n past legal)
-    (phase_right w past es t k (place_below A n) (subst (λ m. AllAt A m es) (numbered A n) (moment_events w past n es happens)) (phase_at A k) (place_at A n) happens))
+      before : {e : Entry} → (x ≡ PlainEvent.enter e) ⊎ (x ≡ PlainEvent.dropped e) → IsBefore (length w.net.arcs) n x → number (length w.net.arcs) e.tick (1 + 3 * length w.net.arcs) < n
+      before {e} (inl is) placed' = let b = subst (IsBefore (length w.net.arcs) n) is placed' in let lt = b.1 in let at' = b.2 in omega (arith, lt, at')
+      before {e} (inr is) placed' = let b = subst (IsBefore (length w.net.arcs) n) is placed' in let lt = b.1 in let at' = b.2 in omega (arith, lt, at')
 
-ring_prio : (w : Scenario) (a p : ℕ) (e : PlainEvent) (r : RingEntry) → PrioRight w e → entry_on a p e ≡ Some r → r.entered ≡ true → p ≡ (row w r.frame).prio
-ring_prio w a p (PlainEvent.enter e) r right is = go ((e.arc == a) && (e.prio == p)) refl is
-  where
-    go : (b : Bool) → ((e.arc == a) && (e.prio == p)) ≡ b → (if b then Some (record { tick = e.tick; frame = e.frame; entered = true }) else None) ≡ Some r → r.entered ≡ true → p ≡ (row w r.frame).prio
-    go false off at yes' = absurd (cc at)
-    go true on at yes' =
-        let parts = and_parts (e.arc == a) (e.prio == p) on in
-        let prio_is : e.prio ≡ p = grind (arith, nat_tests, parts.1) in
-        let made : RingEntry = record { tick = e.tick; frame = e.frame; entered = true } in
-        let same : made ≡ r = cc at in
-        sym prio_is ∙ (right ∙ ap (λ (x : RingEntry). (row w x.frame).prio) same)
-ring_prio w a p (PlainEvent.dropped e) r right is = go ((e.arc == a) && (e.prio == p)) is
-  where
-    go : (b : Bool) → (if b then Some (record { tick = e.tick; frame = e.frame; entered = false }) else None) ≡ Some r → r.entered ≡ true → p ≡ (row w r.frame).prio
-    go false at yes' = absurd (cc at)
-    go true at yes' =
-        let made : RingEntry = record { tick = e.tick; frame = e.frame; entered = false } in
-        let same : made ≡ r = cc at in
-        let out : r.entered ≡ false = ap (λ (x : RingEntry). x.entered) (sym same) in
-        absurd (cc (out, yes'))
-ring_prio w a p (PlainEvent.set t b v) r right is = absurd (cc is)
-ring_prio w a p (PlainEvent.begin b) r right is = absurd (cc is)
-ring_prio w a p (PlainEvent.ended b) r right is = absurd (cc is)
-ring_prio w a p (PlainEvent.arrive b) r right is = absurd (cc is)
-ring_prio w a p (PlainEvent.deliver b) r right is = absurd (cc is)
-ring_prio w a p (PlainEvent.active t b v) r right is = absurd (cc is)
-ring_prio w a p (PlainEvent.count t b) r right is = absurd (cc is)
-ring_prio w a p (PlainEvent.end b) r right is = absurd (cc is)
+  all_came : (a p : ℕ) → Every (CameRight w h a p) (Entries h a p)
+  all_came a p = every_selected (entry_on a p) (λ x. (i : ℕ) × (slice_get h i ≡ Some x)) (CameRight w h a p) (λ x r (i, at) is. event_came a p i x r at (ring_event a p x r is)) h
+      (every_placed (λ x. (i : ℕ) × (slice_get h i ≡ Some x)) h (λ i x at. (i, at)))
 
--- what entered a ring has its priority
+-- what came to a ring came by a send or a relay
+pub entries_came : (w : Scenario) (n : ℕ) (h : History) (a p : ℕ) → LegalUpTo w n h → Every (λ (r : RingEntry). ComesBy w h r.tick (coming_to a r.frame)) (Entries h a p)
+entries_came w n h a p legal = every_weaker (CameRight w h a p) (λ (r : RingEntry). ComesBy w h r.tick (coming_to a r.frame)) (λ r came. came.0) (Entries h a p) (all_came w n h legal a p)
+
+-- and has its priority
 pub entries_prio : (w : Scenario) (n : ℕ) (h : History) (a p : ℕ) → LegalUpTo w n h → Every (λ (r : RingEntry). r.entered ≡ true → p ≡ (row w r.frame).prio) (Entries h a p)
-entries_prio w n h a p legal = every_selected (entry_on a p) (PrioRight w) (λ r. r.entered ≡ true → p ≡ (row w r.frame).prio) (ring_prio w a p) h (all_right w n h legal)
+entries_prio w n h a p legal = every_weaker (CameRight w h a p) (λ (r : RingEntry). r.entered ≡ true → p ≡ (row w r.frame).prio) (λ r came entered. came.1) (Entries h a p) (all_came w n h legal a p)
 
 -- ---- order
 
-entry_now : (arcs m a p : ℕ) (e : PlainEvent) (r : RingEntry) → IsAt arcs m e → entry_on a p e ≡ Some r → m ≡ number arcs r.tick (1 + 3 * arcs)
+pub entry_now : (arcs m a p : ℕ) (e : PlainEvent) (r : RingEntry) → IsAt arcs m e → entry_on a p e ≡ Some r → m ≡ number arcs r.tick (1 + 3 * arcs)
 entry_now arcs m a p (PlainEvent.enter e) r at is = go ((e.arc == a) && (e.prio == p)) is
   where
     go : (b : Bool) → (if b then Some (record { tick = e.tick; frame = e.frame; entered = true }) else None) ≡ Some r → m ≡ number arcs r.tick (1 + 3 * arcs)
