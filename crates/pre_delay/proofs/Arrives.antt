@@ -27,14 +27,15 @@ use Rattle.pre_bound.specs.Uses.{TakesAt, is_stream}
 use Rattle.pre_bound.specs.Values.{Values}
 use Rattle.pre_bound.specs.Good.{AreGood}
 use Rattle.pre_bound.proofs.Hops.{TakesAt-from}
+use Rattle.pre_history.proofs.NatTests.{is_eq}
+use Rattle.pre_laws.proofs.Fitting.{read_one}
 use Rattle.pre_delay.proofs.Arcs.{Some_of}
 use Rattle.pre_delay.specs.Ports.{stream_of, wire}
 use Rattle.pre_delay.specs.Runs.{IsRun}
 use Rattle.pre_delay.specs.Timely.{SparedArrive}
-use Rattle.pre_delay.proofs.Certified.{is_yes}
 use Rattle.pre_delay.proofs.Begun.{has_ended}
 use Rattle.pre_delay.proofs.Sent.{FromFront, express_begins}
-use Rattle.pre_delay.proofs.Known.{read_any, routed, routes, hop_within}
+use Rattle.pre_delay.proofs.Known.{routed, routes, hop_within}
 use Rattle.pre_delay.proofs.Bursts.{behind_it, taken_at}
 use Rattle.pre_delay.proofs.OnePort.{rules, row_high, port_of, timely}
 use Rattle.pre_delay.proofs.Network.{all_obey, port_obeys}
@@ -49,12 +50,12 @@ IsDeliveryOf w f d = (d.frame ≡ f) × (d.octets ≡ FrameOf w f)
 
 after_last : (xs : List ℕ) → AllPairs (λ x y. x ≢ y) xs → (k x : ℕ) → slice_get xs k ≡ Some x → suc k ≡ length xs → after x xs ≡ None
 after_last [] apart k x at long = absurd (cc at)
-after_last (z ∷ []) apart zero x at long = let same : z ≡ x = cc at in subst (λ b. (if b then slice_get {X = ℕ} [] 0 else after x []) ≡ None) (sym (is_yes z x same)) refl
+after_last (z ∷ []) apart zero x at long = let same : z ≡ x = cc at in subst (λ b. (if b then slice_get {X = ℕ} [] 0 else after x []) ≡ None) (sym (is_eq z x same)) refl
 after_last (z ∷ (y ∷ ys)) apart zero x at long = absurd (omega (arith, long))
 after_last (z ∷ xs) apart (suc k) x at long =
     let rest = after_last xs (λ i j d lt inside. apart (suc i) (suc j) d (omega (arith, lt)) (omega (arith, inside))) k x at (omega (arith, long)) in
     let inside = within xs k x at in
-    let other : z ≢ x = λ same. apart 0 (suc k) x (omega arith) (omega (arith, inside)) (same ∙ sym (read_any xs k x x at)) in
+    let other : z ≢ x = λ same. apart 0 (suc k) x (omega arith) (omega (arith, inside)) (same ∙ sym (read_one xs k x x at)) in
     subst (λ b. (if b then slice_get xs 0 else after x xs) ≡ None) (sym (not_same z x other)) rest
   where
     not_same : (m n : ℕ) → m ≢ n → (m == n) ≡ false

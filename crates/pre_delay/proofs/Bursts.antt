@@ -29,22 +29,22 @@ use Rattle.pre_history.proofs.Relays.{ComesBy, IsSent, IsRelayed}
 use Rattle.pre_history.proofs.Undamaged.{length-FrameOf}
 use Rattle.pre_bound.specs.Uses.{TakesAt}
 use Rattle.pre_bound.proofs.Sums.{sum_by-filter-cons}
+use Rattle.pre_history.proofs.NatTests.{is_eq}
+use Rattle.pre_laws.proofs.Fitting.{read_one}
 use Rattle.pre_delay.specs.Ticks.{is_from_to, octets_from_to}
 use Rattle.pre_delay.specs.Ports.{stream_of, wire}
 use Rattle.pre_delay.proofs.Port.{RingObeys, IsKnown}
 use Rattle.pre_delay.proofs.Arcs.{Queued, Some_of, entered_from_to, CameFrom, OtherFrames}
 use Rattle.pre_delay.specs.Runs.{IsRun, sends_of}
-use Rattle.pre_delay.proofs.Lists.{Apart, sums-matched}
+use Rattle.pre_delay.proofs.Lists.{Apart, some-weaker, sums-matched}
 use Rattle.pre_delay.proofs.Members.{every-filter, every-weaker, some-filter}
 use Rattle.pre_delay.proofs.Windows.{obeys_ticks}
 use Rattle.pre_delay.proofs.Hop.{hop_grows}
 use Rattle.pre_delay.proofs.Seen.{as_queued}
-use Rattle.pre_delay.proofs.Certified.{is_yes}
 use Rattle.pre_delay.proofs.Once.{hop_before}
 use Rattle.pre_laws.proofs.Once.{coming_to}
 use Rattle.pre_delay.proofs.Apart.{OtherFrame, comers}
 use Rattle.pre_delay.proofs.Entering.{entering, told_entries}
-use Rattle.pre_delay.proofs.Known.{read_any}
 
 abbrev pub of_stream : Scenario → (i from to : ℕ) → RingEntry → Bool
 of_stream w i from to r = is_from_to from to r.tick && (stream_of w r.frame == i)
@@ -178,11 +178,11 @@ pub behind_it : (xs : List ℕ) → AllPairs (λ x y. x ≢ y) xs → (k x y : �
 behind_it [] apart k x y at next = absurd (cc at)
 behind_it (z ∷ xs) apart zero x y at next =
     let same : z ≡ x = cc at in
-    subst (λ b. (if b then slice_get xs 0 else after x xs) ≡ Some y) (sym (is_yes z x same)) next
+    subst (λ b. (if b then slice_get xs 0 else after x xs) ≡ Some y) (sym (is_eq z x same)) next
 behind_it (z ∷ xs) apart (suc k) x y at next =
     let rest = behind_it xs (λ i j d lt inside. apart (suc i) (suc j) d (omega (arith, lt)) (omega (arith, inside))) k x y at next in
     let inside = within xs k x at in
-    let other : z ≢ x = λ same. apart 0 (suc k) x (omega arith) (omega (arith, inside)) (same ∙ sym (read_any xs k x x at)) in
+    let other : z ≢ x = λ same. apart 0 (suc k) x (omega arith) (omega (arith, inside)) (same ∙ sym (read_one xs k x x at)) in
     subst (λ b. (if b then slice_get xs 0 else after x xs) ≡ Some y) (sym (not_same z x other)) rest
   where
     not_same : (m n : ℕ) → m ≢ n → (m == n) ≡ false
@@ -194,7 +194,7 @@ taken_at (x ∷ xs) zero a at = at
 taken_at (x ∷ xs) (suc j) a at = taken_at xs j a at
 
 pub row_is : (w : Scenario) (i f : ℕ) (r : Row) → slice_get w.streams.rows i ≡ Some r → stream_of w f ≡ i → row w f ≡ r
-row_is w i f r at same = read_any w.streams.rows (stream_of w f) r no_row (subst (λ k. slice_get w.streams.rows k ≡ Some r) (sym same) at)
+row_is w i f r at same = read_one w.streams.rows (stream_of w f) r no_row (subst (λ k. slice_get w.streams.rows k ≡ Some r) (sym same) at)
 
 -- an entry of a list, known and come by a send or a relay
 abbrev pub KnownToCome : Scenario → History → ℕ → RingEntry → Type 0
@@ -214,11 +214,6 @@ HaveLeft w h past b p i t delay =
 
 pub have_left : (w : Scenario) (h : History) (b p i t delay : ℕ) → AllLeft w h b p delay → HaveLeft w h h b p i t delay
 have_left w h b p i t delay left j y at on stream k g begun carries soon = (some_at (λ z. z ≡ y) (Entries h b p) j y at refl, left j y at on k g begun carries)
-
-some_weaker : {X : Type 0} (P Q : X → Type 0) (xs : List X) → ((x : X) → P x → Q x) → Some_of P xs → Some_of Q xs
-some_weaker P Q [] says some = absurd some
-some_weaker P Q (x ∷ xs) says (inl here) = inl (says x here)
-some_weaker P Q (x ∷ xs) says (inr more) = inr (some_weaker P Q xs says more)
 
 module _ (w : Scenario) (n : ℕ) (h : History) (legal : LegalUpTo w n h) (routes : (f : ℕ) → AllPairs (λ x y. x ≢ y) (hops w f)) where
   module _ (a b i hop : ℕ) (r : Row) (at : slice_get w.streams.rows i ≡ Some r) (here : TakesAt r hop b) (next : TakesAt r (hop + 1) a) where
@@ -254,7 +249,7 @@ module _ (w : Scenario) (n : ℕ) (h : History) (legal : LegalUpTo w n h) (route
         (filter (λ (y : RingEntry). stream_of w y.frame == i) (Entries past b r.prio))
         (some-filter (λ (y : RingEntry). (y.frame ≡ x.frame) × (wire w x ≤ wire w y) × (y.tick + ((arc w b).delay + latency w b) + 72 * (arc w b).cost ≤ x.tick) × (x.tick ≤ y.tick + ((arc w b).delay + latency w b) + (delay - 12 * (arc w b).cost)))
         (λ (y : RingEntry). stream_of w y.frame == i) (Entries past b r.prio)
-        (some_weaker (λ (y : RingEntry). y ≡ o.entry) (λ (y : RingEntry). ((stream_of w y.frame == i) ≡ true) × ((y.frame ≡ x.frame) × (wire w x ≤ wire w y) × (y.tick + ((arc w b).delay + latency w b) + 72 * (arc w b).cost ≤ x.tick) × (x.tick ≤ y.tick + ((arc w b).delay + latency w b) + (delay - 12 * (arc w b).cost))))
+        (some-weaker (λ (y : RingEntry). y ≡ o.entry) (λ (y : RingEntry). ((stream_of w y.frame == i) ≡ true) × ((y.frame ≡ x.frame) × (wire w x ≤ wire w y) × (y.tick + ((arc w b).delay + latency w b) + 72 * (arc w b).cost ≤ x.tick) × (x.tick ≤ y.tick + ((arc w b).delay + latency w b) + (delay - 12 * (arc w b).cost))))
         (Entries past b r.prio) (λ y same. subst (λ (z : RingEntry). ((stream_of w z.frame == i) ≡ true) × ((z.frame ≡ x.frame) × (wire w x ≤ wire w z) × (z.tick + ((arc w b).delay + latency w b) + 72 * (arc w b).cost ≤ x.tick) × (x.tick ≤ z.tick + ((arc w b).delay + latency w b) + (delay - 12 * (arc w b).cost)))) (sym same)
         (ap (λ f. stream_of w f == i) o.same ∙ on, (o.same, omega (arith, long), omega (arith, o.comes, o.by, some), omega (arith, o.comes, out, cost, spread)))) old.0))
 
@@ -355,7 +350,7 @@ module _ (w : Scenario) (run : IsRun w) (routes : (f : ℕ) → AllPairs (λ x y
       let stream : stream_of w x.frame ≡ i = grind (arith, nat_tests, parts.1) in
       let s = by_send x (row_is w i x.frame r at stream) by in
       let line = there w.script.sends x.frame s.known in
-      let is : send w x.frame ≡ line.0 = read_any w.script.sends x.frame line.0 no_send line.1 in
+      let is : send w x.frame ≡ line.0 = read_one w.script.sends x.frame line.0 no_send line.1 in
       let frame = run.frames x.frame s.known in
       let long = length-FrameOf w x.frame (omega (arith, frame.least)) in
       let size : (send w x.frame).send.size ≡ line.0.send.size = ap (λ (z : SendLine). z.send.size) is in

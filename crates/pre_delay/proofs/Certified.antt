@@ -4,7 +4,6 @@ use Rattle.std.specs.Prelude.{slice_get, sum_by, ◌&&◌}
 use Rattle.std.specs.List.{AllByRecursion as Every, enumerate_from}
 use Rattle.std.specs.Option.{option_map_or}
 use Rattle.std.proofs.Math.Nat.{mul-le-mul_left, mul-le-mul_right}
-use Rattle.std.proofs.lemmas.Bool.Decides.{nat_tests}
 use Rattle.std.proofs.lemmas.List.Sums.{sum_by-append}
 use Rattle.std.proofs.lemmas.List.Elements.{filter-append}
 use Rattle.pre_topo.specs.declared.network.Network.{Network}
@@ -23,6 +22,7 @@ use Rattle.pre_bound.specs.Clauses.{Work, Delay, Load, certified_bursts}
 use Rattle.pre_bound.specs.Solutions.{CoversDelay}
 use Rattle.pre_bound.proofs.Sums.{sum_by-filter-cons, sums_ge}
 use Rattle.pre_bound.proofs.Hops.{OnArc-from, is_on-from}
+use Rattle.pre_history.proofs.NatTests.{is_eq}
 use Rattle.pre_delay.specs.Ticks.{is_from_to}
 use Rattle.pre_delay.specs.Ports.{stream_of, wire, IsOnTime}
 use Rattle.pre_delay.proofs.Port.{RingObeys, IsKnown, IsPort}
@@ -135,9 +135,6 @@ entered-le w from to i (r ∷ rs) =
           | false ↦ omega arith
         ]
 
-pub is_yes : (m n : ℕ) → m ≡ n → (m == n) ≡ true
-is_yes m n e = grind (arith, nat_tests)
-
 module _ (w : Scenario) (n : ℕ) (h : History) (a : ℕ) (legal : LegalUpTo w n h)
     (known : (q j : ℕ) (r : RingEntry) → slice_get (Entries h a q) j ≡ Some r → r.entered ≡ true → IsKnown w a r.frame) (v : Values)
     (low : ℕ) (obeys : (q i : ℕ) (r : Row) → low ≤ q → slice_get w.streams.rows i ≡ Some r → is_on a q (q + 1) r ≡ true → RingObeys w h a q i (v.burst i (hop_of a r)) (rate_of r)) where
@@ -170,7 +167,7 @@ module _ (w : Scenario) (n : ℕ) (h : History) (a : ℕ) (legal : LegalUpTo w n
           let k = known q j r at entered in
           let prio : q ≡ (row w r.frame).prio = every_at (λ (y : RingEntry). y.entered ≡ true → q ≡ (row w y.frame).prio) (Entries h a q) j r (entries_prio w n h a q legal) at entered in
           let on = is_on-from a q (q + 1) (row w r.frame) (record { express = k.stream (omega (arith, prio)); from = omega (arith, prio); below = omega (arith, prio); takes = k.takes }) in
-          some-row (is_on a q (q + 1)) (λ k. (stream_of w r.frame == k.0) ≡ true) 0 w.streams.rows (stream_of w r.frame) (row w r.frame) k.listed on (is_yes (stream_of w r.frame) (0 + stream_of w r.frame) (omega arith))
+          some-row (is_on a q (q + 1)) (λ k. (stream_of w r.frame == k.0) ≡ true) 0 w.streams.rows (stream_of w r.frame) (row w r.frame) k.listed on (is_eq (stream_of w r.frame) (0 + stream_of w r.frame) (omega arith))
 
   -- and what enters the rings above
   pub above_obeys : (p k : ℕ) → low ≤ p → (arc w a).express_from ≤ p → (from to : ℕ) → from ≤ to
@@ -259,6 +256,6 @@ module _ (w : Scenario) (n : ℕ) (h : History) (a p done : ℕ) (v : Values) (p
           let m = map-some (as_sent w h) (λ s. (s.begin < r.tick) × (s.frame ≡ r.frame) × Mine (traffic w h a p) s) (Begins h a) begun in
           let o = mine-sent w n h a p done port.within port.legal port.express port.below port.over port.unstarted m.0 m.1 m.2 m.3.2 in
           let same : o.0.0 ≡ r.frame = sym (ap frame_number o.1) ∙ m.3.1 in
-          let on : what_is m.1.what r.frame ≡ true = ap (λ x. what_is x r.frame) o.1 ∙ is_yes o.0.0 r.frame same in
+          let on : what_is m.1.what r.frame ≡ true = ap (λ x. what_is x r.frame) o.1 ∙ is_eq o.0.0 r.frame same in
           let yes' = some-begun h a r.tick r.frame m.0 m.1 m.2 m.3.0 on o.2.from in
           absurd (cc (yes', fresh))

@@ -33,6 +33,7 @@ use Rattle.pre_bound.specs.Along.{hop_ticks}
 use Rattle.pre_bound.specs.Values.{Values}
 use Rattle.pre_bound.specs.Good.{AreGood}
 use Rattle.pre_bound.proofs.Hops.{TakesAt-hop_of, TakesAt-place, TakesAt-from}
+use Rattle.pre_laws.proofs.Fitting.{read_one}
 use Rattle.pre_delay.specs.Ports.{stream_of, wire}
 use Rattle.pre_delay.proofs.Port.{IsKnown}
 use Rattle.pre_delay.specs.Runs.{IsRun}
@@ -40,7 +41,7 @@ use Rattle.pre_delay.proofs.Rings.{entries_came, front_of_ring}
 use Rattle.pre_delay.proofs.Sent.{express_begins}
 use Rattle.pre_delay.proofs.Once.{hop_before}
 use Rattle.pre_laws.proofs.Once.{coming_to}
-use Rattle.pre_delay.proofs.Known.{begun_high, read_any, known, routes, hop_within}
+use Rattle.pre_delay.proofs.Known.{begun_high, known, routes, hop_within}
 use Rattle.pre_delay.proofs.Bursts.{AllLeft, by_relay, taken_at}
 use Rattle.pre_delay.proofs.OnePort.{rules, row_high, below, port_of, timely}
 use Rattle.pre_delay.proofs.Network.{all_obey, port_obeys}
@@ -124,8 +125,8 @@ module _ (w : Scenario) (v : Values) (run : IsRun w) (good : AreGood w.net w.str
       let o = there r.route (suc j + 1) (omega (arith, inside, route.hops)) in
       let one = route.leads j x.0 m.0 n.0 x.1 m.1 n.1 in
       let two = route.leads (suc j) y.0 n.0 o.0 y.1 n' o.1 in
-      let b_is : arc w b ≡ one.0 = read_any w.net.arcs b one.0 no_arc (subst (λ k. slice_get w.net.arcs k ≡ Some one.0) x.2 one.1) in
-      let a_is : arc w a ≡ two.0 = read_any w.net.arcs a two.0 no_arc (subst (λ k. slice_get w.net.arcs k ≡ Some two.0) y.2 two.1) in
+      let b_is : arc w b ≡ one.0 = read_one w.net.arcs b one.0 no_arc (subst (λ k. slice_get w.net.arcs k ≡ Some one.0) x.2 one.1) in
+      let a_is : arc w a ≡ two.0 = read_one w.net.arcs a two.0 no_arc (subst (λ k. slice_get w.net.arcs k ≡ Some two.0) y.2 two.1) in
       ap (λ (z : Arc). z.to.0) b_is ∙ (ap (λ z. z.0) (one.3 ∙ sym two.2) ∙ ap (λ (z : Arc). z.from.0) (sym a_is))
 
   cost_of : (a : ℕ) → a < length w.net.arcs → cost_at w.net a ≡ (arc w a).cost
@@ -250,8 +251,8 @@ module _ (w : Scenario) (v : Values) (run : IsRun w) (good : AreGood w.net w.str
         go (Some b) at is = (b, at, frame_in_is b.what f is)
 
     delivered_soon : (node f : ℕ) (octets : List ℕ) (next : Option ℕ) → (IsExpressFrame w f → t ≤ (send w f).send.tick.0 + v.bound (stream_of w f)) → Every InBound (delivered t node f octets next)
-    delivered_soon node f octets None timely = (timely, tt)
-    delivered_soon node f octets (Some b) timely = tt
+    delivered_soon node f octets None soon = (soon, tt)
+    delivered_soon node f octets (Some b) soon = tt
 
     with_delivery : (k : ℕ) (e : Ended) → slice_get (Ends past a) k ≡ Some e → e.tick + (arc w a).delay ≡ t → (result : Outcome) (es : History) → WithDelivery w past t a e.ord result es → Every InBound es
     with_delivery k e at due outcome.Frame es (f, octets, carried, gives, is) =
@@ -301,18 +302,18 @@ module _ (w : Scenario) (v : Values) (run : IsRun w) (good : AreGood w.net w.str
       (phase_soon past es t k (place_below A n) (subst (λ m. AllAt A m es) n_is (moment_events w past n es happens)) (subst (λ m. LegalUpTo w m past) n_is legal) (phase_at A k) (place_at A n) happens))
 
   delivery_soon : (e : PlainEvent) (d : Delivery) → InBound e → delivery_of e ≡ Some d → IsExpressFrame w d.frame → d.tick ≤ (send w d.frame).send.tick.0 + v.bound (stream_of w d.frame)
-  delivery_soon (PlainEvent.deliver c) d timely is =
+  delivery_soon (PlainEvent.deliver c) d soon is =
       let same : c ≡ d = cc is in
-      subst (λ (x : Delivery). IsExpressFrame w x.frame → x.tick ≤ (send w x.frame).send.tick.0 + v.bound (stream_of w x.frame)) same timely
-  delivery_soon (PlainEvent.set s a x) d timely is = absurd (cc is)
-  delivery_soon (PlainEvent.begin b) d timely is = absurd (cc is)
-  delivery_soon (PlainEvent.ended e) d timely is = absurd (cc is)
-  delivery_soon (PlainEvent.arrive x) d timely is = absurd (cc is)
-  delivery_soon (PlainEvent.active s a x) d timely is = absurd (cc is)
-  delivery_soon (PlainEvent.enter e) d timely is = absurd (cc is)
-  delivery_soon (PlainEvent.dropped e) d timely is = absurd (cc is)
-  delivery_soon (PlainEvent.count a c) d timely is = absurd (cc is)
-  delivery_soon (PlainEvent.end e) d timely is = absurd (cc is)
+      subst (λ (x : Delivery). IsExpressFrame w x.frame → x.tick ≤ (send w x.frame).send.tick.0 + v.bound (stream_of w x.frame)) same soon
+  delivery_soon (PlainEvent.set s a x) d soon is = absurd (cc is)
+  delivery_soon (PlainEvent.begin b) d soon is = absurd (cc is)
+  delivery_soon (PlainEvent.ended e) d soon is = absurd (cc is)
+  delivery_soon (PlainEvent.arrive x) d soon is = absurd (cc is)
+  delivery_soon (PlainEvent.active s a x) d soon is = absurd (cc is)
+  delivery_soon (PlainEvent.enter e) d soon is = absurd (cc is)
+  delivery_soon (PlainEvent.dropped e) d soon is = absurd (cc is)
+  delivery_soon (PlainEvent.count a c) d soon is = absurd (cc is)
+  delivery_soon (PlainEvent.end e) d soon is = absurd (cc is)
 
   -- Each delivered frame of an express priority was sent at most its stream's bound before.
   pub deliveries_in_bound : (n : ℕ) (h : History) → LegalUpTo w n h → (j : ℕ) (d : Delivery) → slice_get (Deliveries h) j ≡ Some d → IsExpressFrame w d.frame

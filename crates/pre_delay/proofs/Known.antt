@@ -28,6 +28,7 @@ use Rattle.pre_bound.specs.Uses.{is_stream, hop_of, TakesAt}
 use Rattle.pre_bound.proofs.Hops.{takes-from, TakesAt-hop_of, TakesAt-place}
 use Rattle.pre_laws.specs.Routed.{IsOnRoute, IsRouted}
 use Rattle.pre_laws.proofs.Routed.{BegunRight, all_right, begins_right, comes_right}
+use Rattle.pre_laws.proofs.Fitting.{read_one}
 use Rattle.pre_delay.specs.Ports.{stream_of}
 use Rattle.pre_delay.proofs.Port.{IsKnown}
 use Rattle.pre_delay.specs.Runs.{IsRun, sends_of}
@@ -57,11 +58,6 @@ first_known (x ∷ xs) n long is = omega arith
 
 -- ---- no arc twice
 
-pub read_any : {X : Type 0} (xs : List X) (i : ℕ) (x d : X) → slice_get xs i ≡ Some x → slice_index_or xs i d ≡ x
-read_any [] i x d at = absurd (cc at)
-read_any (y ∷ xs) zero x d at = cc at
-read_any (y ∷ xs) (suc i) x d at = read_any xs i x d at
-
 pub past_end : {X : Type 0} (xs : List X) (i : ℕ) (d : X) → length xs ≤ i → slice_index_or xs i d ≡ d
 past_end [] i d le = refl
 past_end (y ∷ xs) zero d le = absurd (omega (arith, le))
@@ -88,11 +84,11 @@ route_once net route arcs r i j d less inside same =
     let n' = there route (j + 1) (omega (arith, j_lt, r.hops)) in
     let one = r.leads i x.0 m.0 m'.0 x.1 m.1 m'.1 in
     let two = r.leads j y.0 n.0 n'.0 y.1 n.1 n'.1 in
-    let arcs_are : x.0.0 ≡ y.0.0 = sym (read_any (map (λ (a : ArcId). a.0) arcs) i x.0.0 d (map_get (λ (a : ArcId). a.0) arcs i x.0 x.1))
-    ∙ (same ∙ read_any (map (λ (a : ArcId). a.0) arcs) j y.0.0 d (map_get (λ (a : ArcId). a.0) arcs j y.0 y.1)) in
+    let arcs_are : x.0.0 ≡ y.0.0 = sym (read_one (map (λ (a : ArcId). a.0) arcs) i x.0.0 d (map_get (λ (a : ArcId). a.0) arcs i x.0 x.1))
+    ∙ (same ∙ read_one (map (λ (a : ArcId). a.0) arcs) j y.0.0 d (map_get (λ (a : ArcId). a.0) arcs j y.0 y.1)) in
     let arc_is = one_at net.arcs y.0.0 one.0 two.0 (subst (λ k. slice_get net.arcs k ≡ Some one.0) arcs_are one.1) two.1 in
     let node_is : m.0 ≡ n.0 = sym one.2 ∙ (ap (λ a. a.from) arc_is ∙ two.2) in
-    r.once i j m.0 less (omega (arith, j_lt, r.hops)) (ap (λ (z : NodeId). z.0) (read_any route i m.0 m.0 m.1 ∙ (node_is ∙ sym (read_any route j n.0 m.0 n.1))))
+    r.once i j m.0 less (omega (arith, j_lt, r.hops)) (ap (λ (z : NodeId). z.0) (read_one route i m.0 m.0 m.1 ∙ (node_is ∙ sym (read_one route j n.0 m.0 n.1))))
 
 module _ (w : Scenario) (run : IsRun w) where
   pub routes : (f : ℕ) → AllPairs (λ x y. x ≢ y) (hops w f)
@@ -222,7 +218,7 @@ run_of_files w streams script prios curves = record {
   prios = prios;
   frames = λ f lt.
       let s = script.sends f no_send lt in
-      let row_is : row w f ≡ s.row = read_any w.streams.rows (stream_of w f) s.row no_row s.known in
+      let row_is : row w f ≡ s.row = read_one w.streams.rows (stream_of w f) s.row no_row s.known in
       record {
         listed = s.known ∙ ap Some (sym row_is);
         least = s.least;

@@ -30,13 +30,13 @@ use Rattle.pre_bound.specs.Uses.{TakesAt, hop_of, is_stream, rate_of, burst_of}
 use Rattle.pre_bound.specs.Values.{Values}
 use Rattle.pre_bound.specs.Good.{AreGood}
 use Rattle.pre_bound.proofs.Hops.{OnArc-from, TakesAt-hop_of, TakesAt-place, TakesAt-from}
+use Rattle.pre_history.proofs.NatTests.{is_eq}
 use Rattle.pre_delay.specs.Ports.{stream_of, IsOnTime}
 use Rattle.pre_delay.proofs.Port.{RingObeys, RingsObey, HopsObey}
 use Rattle.pre_delay.specs.Runs.{IsRun}
 use Rattle.pre_delay.proofs.Rings.{entries_prio, entry_now}
 use Rattle.pre_delay.proofs.Sent.{express_begins}
 use Rattle.pre_delay.proofs.Seen.{some-begun}
-use Rattle.pre_delay.proofs.Certified.{is_yes}
 use Rattle.pre_delay.proofs.Known.{hop_within, is_fresh, routes}
 use Rattle.pre_delay.proofs.Apart.{entries_moment, OtherFrame, comers, all_apart, entries_pairs, same_entries}
 use Rattle.pre_delay.proofs.Bursts.{ListObeys, KnownToCome, AllLeft, HaveLeft, have_left, some_at, next_obeys, first_obeys, obeys_told}
@@ -213,7 +213,7 @@ module _ (w : Scenario) (v : Values) (run : IsRun w) (good : AreGood w.net w.str
         let up = high in
         let from : g.from ≡ 0 = (express_begins w n h b k g (record { 0 = y.frame }) lt legal found carries (omega (arith, prio, up))).from in
         let after : y.tick ≤ g.tick = elim (cases_lt g.tick y.tick) [
-          | inl less ↦ absurd (let yes' = some-begun h b y.tick y.frame k g found less (ap (λ z. what_is z y.frame) carries ∙ is_yes y.frame y.frame refl) from in cc (yes', new))
+          | inl less ↦ absurd (let yes' = some-begun h b y.tick y.frame k g found less (ap (λ z. what_is z y.frame) carries ∙ is_eq y.frame y.frame refl) from in cc (yes', new))
           | inr more ↦ more
         ] in
         let old = old_entry j y there (omega (arith, after, early)) in

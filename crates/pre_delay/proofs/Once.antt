@@ -1,8 +1,7 @@
 -- In each legal history a frame of an express priority begins on an arc once, and comes to its ring at one tick.
-use Rattle.std.proofs.Common.{ℕ, zero, suc, true, false, ◌==◌, ◌≡◌, ◌≢◌, ◌+◌, ◌*◌, ◌<◌, ◌≤◌, List, [], ◌∷◌, length, map, sym, ◌∙◌, ap, inl, inr, arith, subst, Some}
+use Rattle.std.proofs.Common.{ℕ, zero, suc, true, false, ◌≡◌, ◌≢◌, ◌+◌, ◌*◌, ◌<◌, ◌≤◌, List, [], ◌∷◌, length, map, sym, ◌∙◌, ap, inl, inr, arith, subst, Some}
 use Rattle.std.specs.Prelude.{slice_get, AllPairs}
 use Rattle.std.proofs.lemmas.Bool.{cases_Bool, cases_order}
-use Rattle.std.proofs.lemmas.Bool.Decides.{nat_tests}
 use Rattle.std.proofs.Math.Nat.{mul-le-mul_left}
 use Rattle.pre_base.specs.declared.numbers.FrameNo.{FrameNo}
 use Rattle.pre_history.specs.declared.events.What.TheVariants as what
@@ -19,6 +18,7 @@ use Rattle.pre_history.proofs.Relays.{ComesBy, IsSent, IsRelayed}
 use Rattle.pre_history.proofs.Steady.{costs}
 use Rattle.pre_history.proofs.InOrder.{steady}
 use Rattle.pre_history.proofs.Chosen.{into_map}
+use Rattle.pre_history.proofs.NatTests.{is_eq}
 use Rattle.pre_delay.proofs.Arcs.{Served, InLine}
 use Rattle.pre_delay.proofs.Rings.{entries_came, entries_prio, front_of_ring}
 use Rattle.pre_laws.proofs.Once.{coming_to}
@@ -40,9 +40,6 @@ line-at cost (x ∷ ss) zero (suc j) s r line lt at at' =
     subst (λ (y : Served). y.begin + cost * y.wire ≤ r.begin) same (every_at (λ (y : Served). x.begin + cost * x.wire ≤ y.begin) ss j r line.0 at')
 line-at cost (x ∷ ss) (suc i) (suc j) s r line lt at at' = line-at cost ss i j s r line.1 (omega arith) at at'
 
-is_yes : (m n : ℕ) → m ≡ n → (m == n) ≡ true
-is_yes m n e = grind (arith, nat_tests)
-
 module _ (w : Scenario) (n : ℕ) (h : History) (legal : LegalUpTo w n h) (routes : (f : ℕ) → AllPairs (λ x y. x ≢ y) (hops w f)) where
   not_again : (a i j : ℕ) (b c : Begin) (f : FrameNo) → a < length w.net.arcs → (arc w a).express_from ≤ (row w f.0).prio → slice_get (Begins h a) i ≡ Some b → slice_get (Begins h a) j ≡ Some c
       → b.what ≡ what.Frame f → c.what ≡ what.Frame f → i < j → ⊥
@@ -53,7 +50,7 @@ module _ (w : Scenario) (n : ℕ) (h : History) (legal : LegalUpTo w n h) (route
       let first = express_begins w n h a i b f lt legal at is high in
       let front = express_begins w n h a j c f lt legal at' is' high in
       let fe = front_of_ring w n h a (row w f.0).prio c.tick f.0 front.behind legal front.waits in
-      let yes' = some-begun h a c.tick fe.entry.frame i b at before (ap (λ x. what_is x fe.entry.frame) is ∙ is_yes f.0 fe.entry.frame (sym fe.is)) first.from in
+      let yes' = some-begun h a c.tick fe.entry.frame i b at before (ap (λ x. what_is x fe.entry.frame) is ∙ is_eq f.0 fe.entry.frame (sym fe.is)) first.from in
       let no' = fe.waits.fresh in
       absurd (cc (yes', no'))
 

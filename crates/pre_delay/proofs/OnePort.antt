@@ -29,16 +29,18 @@ use Rattle.pre_bound.specs.Uses.{TakesAt, hop_of, is_on, is_stream, rate_of, has
 use Rattle.pre_bound.specs.Values.{Values}
 use Rattle.pre_bound.specs.Good.{AreGood}
 use Rattle.pre_bound.proofs.Hops.{OnArc-from, TakesAt-hop_of, has_arc-from_port, has_port-from, contains_at}
+use Rattle.pre_history.proofs.NatTests.{is_eq}
+use Rattle.pre_laws.proofs.Fitting.{read_one}
 use Rattle.pre_delay.specs.Ports.{IsOnTime, PortIsTimely}
 use Rattle.pre_delay.proofs.Port.{RingsObey, IsKnown, IsPort, ComesTo}
 use Rattle.pre_delay.specs.Runs.{IsRun}
 use Rattle.pre_delay.proofs.Rings.{entries_came, entries_prio}
 use Rattle.pre_delay.proofs.Sent.{express_begins}
 use Rattle.pre_delay.proofs.Seen.{some-begun}
-use Rattle.pre_delay.proofs.Certified.{is_yes, on_time}
+use Rattle.pre_delay.proofs.Certified.{on_time}
 use Rattle.pre_delay.proofs.Room.{AreFresh, have_room, queue_within}
 use Rattle.pre_laws.proofs.Once.{coming_to}
-use Rattle.pre_delay.proofs.Known.{read_any, carried_known, comer_on, is_fresh, known, known_on, hop_within, stream_high}
+use Rattle.pre_delay.proofs.Known.{carried_known, comer_on, is_fresh, known, known_on, hop_within, stream_high}
 use Rattle.pre_delay.proofs.Apart.{entries_moment, comers, IsComer, every_comer, same_entries}
 use Rattle.pre_delay.proofs.Bursts.{KnownToCome, front_obeys, told_obeys}
 use Rattle.pre_delay.proofs.Entering.{HasRoom, all_enter}
@@ -85,7 +87,7 @@ module _ (w : Scenario) (v : Values) (run : IsRun w) (good : AreGood w.net w.str
   rules i r at = let lt = within w.streams.rows i r at in subst (IsRow w.net) (sym (one_row i r at)) (run.rows i no_row lt)
     where
       one_row : (i : ℕ) (r : Row) → slice_get w.streams.rows i ≡ Some r → r ≡ slice_index_or w.streams.rows i no_row
-      one_row i r at = sym (read_any w.streams.rows i r no_row at)
+      one_row i r at = sym (read_one w.streams.rows i r no_row at)
 
   pub below : (i : ℕ) (r : Row) → slice_get w.streams.rows i ≡ Some r → r.prio < 8
   below i r at = run.prios r (contains_at w.streams.rows i r at)
@@ -282,7 +284,7 @@ module _ (w : Scenario) (v : Values) (run : IsRun w) (good : AreGood w.net w.str
               let prio : p ≡ (row w r.frame).prio = every_at (λ (y : RingEntry). y.entered ≡ true → p ≡ (row w y.frame).prio) (Entries h a p) j r (entries_prio w n h a p legal) there (entered_at j r there) in
               let express = at.express in
               let from : b.from ≡ 0 = (express_begins w n h a i b (record { 0 = r.frame }) at.within legal found carries (omega (arith, prio, express))).from in
-              let yes' = some-begun h a r.tick r.frame i b found (omega (arith, early, later)) (ap (λ z. what_is z r.frame) carries ∙ is_yes r.frame r.frame refl) from in
+              let yes' = some-begun h a r.tick r.frame i b found (omega (arith, early, later)) (ap (λ z. what_is z r.frame) carries ∙ is_eq r.frame r.frame refl) from in
               cc (yes', new)
 
       pub timely : PortIsTimely w h t v a p

@@ -17,6 +17,7 @@ use Rattle.pre_bound.specs.Values.{Values}
 use Rattle.pre_bound.specs.Clauses.{certified_bursts, Size, Ring}
 use Rattle.pre_bound.proofs.Sums.{sums_ge}
 use Rattle.pre_bound.proofs.Hops.{is_on-from}
+use Rattle.pre_history.proofs.NatTests.{is_eq}
 use Rattle.pre_delay.specs.Ticks.{is_from_to}
 use Rattle.pre_delay.specs.Ports.{stream_of, wire, wire_of, waiting_octets}
 use Rattle.pre_delay.proofs.Port.{IsKnown, IsPort, ComesTo}
@@ -27,7 +28,7 @@ use Rattle.pre_delay.proofs.Periods.{frames_within}
 use Rattle.pre_delay.proofs.Queue.{queue_fits}
 use Rattle.pre_delay.proofs.Rings.{entries_prio}
 use Rattle.pre_delay.proofs.Seen.{traffic, queued, as_queued, as_sent, every-queue, map-some, mine-sent, some-begun}
-use Rattle.pre_delay.proofs.Certified.{entered-le, is_yes, some-row, every-row, port_serves, port_covered, port_enters}
+use Rattle.pre_delay.proofs.Certified.{entered-le, some-row, every-row, port_serves, port_covered, port_enters}
 
 -- ---- any entries
 
@@ -76,7 +77,7 @@ entries_obey w a q v es high facts from to obeys =
     belongs : (r : RingEntry) → IsKnown w a r.frame × (q ≡ (row w r.frame).prio) → Some_of (λ k. (stream_of w r.frame == k.0) ≡ true) (filter (λ e. is_on a q (q + 1) e.1) (enumerate_from 0 w.streams.rows))
     belongs r (k, prio) =
         let on = is_on-from a q (q + 1) (row w r.frame) (record { express = k.stream (omega (arith, prio)); from = omega (arith, prio); below = omega (arith, prio); takes = k.takes }) in
-        some-row (is_on a q (q + 1)) (λ k. (stream_of w r.frame == k.0) ≡ true) 0 w.streams.rows (stream_of w r.frame) (row w r.frame) k.listed on (is_yes (stream_of w r.frame) (0 + stream_of w r.frame) (omega arith))
+        some-row (is_on a q (q + 1)) (λ k. (stream_of w r.frame == k.0) ≡ true) 0 w.streams.rows (stream_of w r.frame) (row w r.frame) k.listed on (is_eq (stream_of w r.frame) (0 + stream_of w r.frame) (omega arith))
 
 -- ---- counts
 
@@ -109,7 +110,7 @@ unsent w n h a p done v port x f fresh begun =
     let m = map-some (as_sent w h) (λ s. (s.begin < x) × (s.frame ≡ f) × Mine (traffic w h a p) s) (Begins h a) begun in
     let o = mine-sent w n h a p done port.within port.legal port.express port.below port.over port.unstarted m.0 m.1 m.2 m.3.2 in
     let same : o.0.0 ≡ f = sym (ap frame_number o.1) ∙ m.3.1 in
-    let on : what_is m.1.what f ≡ true = ap (λ y. what_is y f) o.1 ∙ is_yes o.0.0 f same in
+    let on : what_is m.1.what f ≡ true = ap (λ y. what_is y f) o.1 ∙ is_eq o.0.0 f same in
     let yes' = some-begun h a x f m.0 m.1 m.2 m.3.0 on o.2.from in
     absurd (cc (yes', fresh))
 

@@ -27,6 +27,7 @@ use Rattle.pre_history.proofs.InOrder.{steady}
 use Rattle.pre_history.proofs.Chosen.{from_map, into_map}
 use Rattle.pre_history.proofs.Placing.{placed, begins_arc}
 use Rattle.pre_history.proofs.Steady.{costs}
+use Rattle.pre_history.proofs.NatTests.{is_eq}
 use Rattle.pre_delay.proofs.Arcs.{Served, Queued, Traffic, Some_of, InLine, FreeAt, Mine, BegunBefore, WaitsAt, MineWaits, EnteredFor, Serves}
 use Rattle.pre_delay.proofs.Rings.{EntryWaits, front_of_ring, ring_waits, entries_prio}
 use Rattle.pre_delay.proofs.Begun.{express_starts, front_high, has_ended}
@@ -177,9 +178,6 @@ from-above w h a p P (suc n) some =
 earlier_tick : (size s t j : ℕ) → s < t → j < size → s * size + j < t * size
 earlier_tick size s t j lt below = let product : (s + 1) * size ≤ t * size = mul-le-mul_right size (omega arith) in omega arith
 
-is_yes : (m n : ℕ) → m ≡ n → (m == n) ≡ true
-is_yes m n e = grind (arith, nat_tests)
-
 yes_is : (m n : ℕ) → (m == n) ≡ true → m ≡ n
 yes_is m n e = grind (arith, nat_tests)
 
@@ -207,7 +205,7 @@ pub some-begun : (h : History) (a t f i : ℕ) (b : Begin) → slice_get (Begins
 some-begun h a t f i b at early on from = go (Begins h a) i at
   where
     here : (nat_lt b.tick t && what_is b.what f && (b.from == 0)) ≡ true
-    here = and_from (nat_lt b.tick t && what_is b.what f) (b.from == 0) (and_from (nat_lt b.tick t) (what_is b.what f) (lt-ltb b.tick t early) on) (is_yes b.from 0 from)
+    here = and_from (nat_lt b.tick t && what_is b.what f) (b.from == 0) (and_from (nat_lt b.tick t) (what_is b.what f) (lt-ltb b.tick t early) on) (is_eq b.from 0 from)
 
     go : (bs : List Begin) (i : ℕ) → slice_get bs i ≡ Some b → list_any (λ x. nat_lt x.tick t && what_is x.what f && (x.from == 0)) bs ≡ true
     go [] i at = absurd (cc at)
@@ -234,7 +232,7 @@ frame-what w what.Nothing k e = absurd (omega arith)
 pub ranked_mine : (w : Scenario) (h : History) (a p : ℕ) (b : Begin) (k : ℕ) → rank_of w b.what ≡ k → suc p ≤ k → Mine (traffic w h a p) (as_sent w h b)
 ranked_mine w h a p b k is more = elim (cases_lt (suc p) k) [
   | inl above' ↦ inr (lt-ltb (suc p) (rank_of w b.what) (omega arith))
-  | inr same ↦ inl (is_yes (rank_of w b.what) (suc p) (omega arith))
+  | inr same ↦ inl (is_eq (rank_of w b.what) (suc p) (omega arith))
 ]
 
 -- the mPackets of an arc are in line
@@ -355,7 +353,7 @@ module _ (w : Scenario) (n : ℕ) (h : History) (a p done : ℕ) (lt : a < lengt
           let g = mine-sent m.0 c m.2 m.3.2 in
           let fe = front_of_ring w n h a ((row w o.0.0).prio) b.tick o.0.0 o.2.behind legal o.2.waits in
           let frames : g.0.0 ≡ fe.entry.frame = sym (ap frame_number g.1) ∙ (m.3.1 ∙ (ap frame_number o.1 ∙ sym fe.is)) in
-          let on : what_is c.what fe.entry.frame ≡ true = ap (λ x. what_is x fe.entry.frame) g.1 ∙ is_yes g.0.0 fe.entry.frame frames in
+          let on : what_is c.what fe.entry.frame ≡ true = ap (λ x. what_is x fe.entry.frame) g.1 ∙ is_eq g.0.0 fe.entry.frame frames in
           let yes' = some-begun h a b.tick fe.entry.frame m.0 c m.2 m.3.0 on g.2.from in
           let no' = fe.waits.fresh in
           absurd (cc (yes', no'))
@@ -381,7 +379,7 @@ module _ (w : Scenario) (n : ℕ) (h : History) (a p done : ℕ) (lt : a < lengt
       ranked : (b : Begin) (q : ℕ) → p ≤ q → rank_of w b.what ≡ suc q → Mine l (as_sent w h b)
       ranked b q le rank = elim (cases_lt p q) [
         | inl more ↦ inr (lt-ltb (suc p) (rank_of w b.what) (omega arith))
-        | inr same ↦ inl (is_yes (rank_of w b.what) (suc p) (omega arith))
+        | inr same ↦ inl (is_eq (rank_of w b.what) (suc p) (omega arith))
       ]
 
   serves-first : Every (λ f. Every (λ s. l.is_own s ≡ true → ¬ BegunBefore l s.begin f.frame → f.frame ≢ s.frame → Some_of (λ q. (q.frame ≡ s.frame) × (s.wire ≤ q.octets) × (q.tick ≤ f.tick)) l.own) l.served) l.own
@@ -420,7 +418,7 @@ module _ (w : Scenario) (n : ℕ) (h : History) (a p done : ℕ) (lt : a < lengt
       ranked : (b : Begin) (k : ℕ) → rank_of w b.what ≡ k → suc p ≤ k → Mine l (as_sent w h b)
       ranked b k is more = elim (cases_lt (suc p) k) [
         | inl above' ↦ inr (lt-ltb (suc p) (rank_of w b.what) (omega arith))
-        | inr same ↦ inl (is_yes (rank_of w b.what) (suc p) (omega arith))
+        | inr same ↦ inl (is_eq (rank_of w b.what) (suc p) (omega arith))
       ]
 
   serves-starts : (x : ℕ) → x < done → FreeAt l.cost l.served x → MineWaits l x → Some_of (λ s. (s.begin ≡ x) × Mine l s) l.served
