@@ -24,8 +24,8 @@ use Rattle.pre_history.proofs.Relays.{ComesBy}
 use Rattle.pre_history.proofs.Routes.{behind, contained_at, contains_at}
 use Rattle.pre_history.proofs.InOrder.{steady}
 use Rattle.pre_history.proofs.Undamaged.{length-FrameOf}
-use Rattle.pre_bound.specs.Uses.{is_stream, hop_of, TakesAt}
-use Rattle.pre_bound.proofs.Hops.{takes-from, TakesAt-hop_of, TakesAt-place}
+use Rattle.pre_bound.specs.Uses.{is_stream, TakesAt}
+use Rattle.pre_bound.proofs.Hops.{takes-from, TakesAt-place}
 use Rattle.pre_laws.specs.Routed.{IsOnRoute, IsRouted}
 use Rattle.pre_laws.proofs.Routed.{BegunRight, all_right, begins_right, comes_right}
 use Rattle.pre_laws.proofs.Fitting.{read_one}
@@ -162,11 +162,6 @@ module _ (w : Scenario) (run : IsRun w) where
 
   pub known_on : (t a f : ℕ) → IsOnRoute w a t f → IsKnown w a f
   known_on t a f on = known_at f a on.known on.arc
-
-  pub known_within : (f a : ℕ) → IsKnown w a f → a < length w.net.arcs
-  known_within f a k =
-      let inside = within w.streams.rows (stream_of w f) (row w f) k.listed in
-      hop_within w run (row w f) (run.rows (stream_of w f) no_row inside) (hop_of a (row w f)) a (TakesAt-hop_of (row w f) a k.takes)
 
   -- a frame of a priority that is express on one arc of its route is so on the arc before
   pub high_before : (f a : ℕ) → IsKnown w a f → (arc w a).express_from ≤ (row w f).prio → f < length w.script.sends → HighBefore w (coming_to a f)

@@ -2,7 +2,6 @@
 use Rattle.std.proofs.Common.{ℕ, zero, suc, Bool, true, false, ◌==◌, nat_lt, ◌||◌, ◌≡◌, ◌≢◌, ◌⊎◌, ◌+◌, ◌-◌, ◌*◌, ◌<◌, ◌≤◌, List, [], ◌∷◌, ◌++◌, length, map, filter, refl, sym, ◌∙◌, ap, inl, inr, arith, subst, Some}
 use Rattle.std.specs.Prelude.{slice_get, ⊤, if◌then◌else◌, ◌&&◌, MatchOption}
 use Rattle.std.specs.List.{AllByRecursion as Every, list_any}
-use Rattle.std.proofs.Math.Nat.{mul-le-mul_right}
 use Rattle.std.proofs.lemmas.Bool.{cases_lt, cases_Bool, and_parts, and_from, lt-ltb}
 use Rattle.std.proofs.lemmas.Bool.Decides.{nat_tests}
 use Rattle.pre_base.specs.declared.numbers.FrameNo.{FrameNo}
@@ -173,10 +172,6 @@ from-above w h a p P (suc n) some =
     ]
 
 -- ---- the rules
-
--- a moment of a tick stands before those of a later tick
-earlier_tick : (size s t j : ℕ) → s < t → j < size → s * size + j < t * size
-earlier_tick size s t j lt below = let product : (s + 1) * size ≤ t * size = mul-le-mul_right size (omega arith) in omega arith
 
 yes_is : (m n : ℕ) → (m == n) ≡ true → m ≡ n
 yes_is m n e = grind (arith, nat_tests)
