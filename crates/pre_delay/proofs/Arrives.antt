@@ -32,7 +32,7 @@ use Rattle.pre_laws.proofs.Fitting.{read_one}
 use Rattle.pre_delay.proofs.Arcs.{Some_of}
 use Rattle.pre_delay.specs.Ports.{stream_of, wire}
 use Rattle.pre_delay.specs.Runs.{IsRun}
-use Rattle.pre_delay.specs.Timely.{SparedArrive}
+use Rattle.pre_delay.specs.Timely.{SparedFramesArrive}
 use Rattle.pre_delay.proofs.Begun.{has_ended}
 use Rattle.pre_delay.proofs.Sent.{FromFront, express_begins}
 use Rattle.pre_delay.proofs.Known.{routed, routes, hop_within}
@@ -216,9 +216,9 @@ module _ (w : Scenario) (v : Values) (run : IsRun w) (good : AreGood w.net w.str
       on_and_on (length r.arcs - 1) 0 b (omega (arith, some)) here (subst (λ a. Some_of (λ (x : RingEntry). x.frame ≡ f) (Entries h a r.prio)) first first_entry)
 
 -- A spared express frame is delivered, where its bound is over.
-pub spared_arrive : (w : Scenario) (v : Values) → IsRun w → AreGood w.net w.streams.rows v → (n : ℕ) (h : History) (done k : ℕ) → LegalUpTo w n h → k < moments (length w.net.arcs) → n ≡ number (length w.net.arcs) done k
-    → SparedArrive w h done v
-spared_arrive w v run good n h done k legal k_lt n_is f known stream spared time =
+pub spared_frames_arrive : (w : Scenario) (v : Values) → IsRun w → AreGood w.net w.streams.rows v → (n : ℕ) (h : History) (done k : ℕ) → LegalUpTo w n h → k < moments (length w.net.arcs) → n ≡ number (length w.net.arcs) done k
+    → SparedFramesArrive w h done v
+spared_frames_arrive w v run good n h done k legal k_lt n_is f known stream spared time =
     let frame = run.frames f known in
     let o = place_of (IsDeliveryOf w f) (Deliveries h) (delivered_at_last w v run good n h done legal k k_lt n_is (stream_of w f) (row w f) frame.listed stream f refl known spared time) in
     any_at (IsDeliveryOf w f) (Deliveries h) o.0 o.1 o.2 o.3

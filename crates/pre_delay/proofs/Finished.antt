@@ -27,7 +27,7 @@ use Rattle.pre_delay.proofs.Bursts.{and_false, and_true, of_stream}
 use Rattle.pre_delay.proofs.OnePort.{timely}
 use Rattle.pre_delay.proofs.Network.{all_obey, port_obeys}
 use Rattle.pre_delay.proofs.Delivered.{deliveries_in_bound}
-use Rattle.pre_delay.proofs.Arrives.{spared_arrive}
+use Rattle.pre_delay.proofs.Arrives.{spared_frames_arrive}
 
 abbrev IsClosing : PlainEvent → Type 0
 IsClosing (PlainEvent.count a c) = Unit {0}
@@ -149,8 +149,8 @@ module _ (w : Scenario) (v : Values) (body end : History) (done : ℕ) (closed :
     begun_in_time = λ a p j r has at. on_time a p r (t.begun_in_time a p j r has (ap (λ xs. slice_get xs j) (sym (entries a p)) ∙ at));
     queue_within_size = λ a p x has less. subst (λ fs. sum_by (wire_of w) fs ≤ v.size a p) (sym (waiting a p x)) (t.queue_within_size a p x has less);
     none_dropped = λ a p has. subst (Every (λ (r : RingEntry). r.entered ≡ true)) (sym (entries a p)) (t.none_dropped a p has);
-    delivered_in_bound = λ j d at. t.delivered_in_bound j d (ap (λ xs. slice_get xs j) (sym deliveries) ∙ at);
-    spared_arrive = λ f known stream spared over. subst (λ ds. Any (λ (d : Delivery). (d.frame ≡ f) × (d.octets ≡ FrameOf w f)) ds) (sym deliveries) (t.spared_arrive f known stream (spared_before f spared) over);
+    delivery_within_bound = λ j d at. t.delivery_within_bound j d (ap (λ xs. slice_get xs j) (sym deliveries) ∙ at);
+    spared_frames_arrive = λ f known stream spared over. subst (λ ds. Any (λ (d : Delivery). (d.frame ≡ f) × (d.octets ≡ FrameOf w f)) ds) (sym deliveries) (t.spared_frames_arrive f known stream (spared_before f spared) over);
   }
 
 -- In each legal history that goes up to a moment of a tick all is timely.
@@ -160,8 +160,8 @@ timely_at w v run good n h t k k_lt n_is legal = record {
   begun_in_time = λ a p j r has at. (here a p has).begun_in_time j r at;
   queue_within_size = λ a p x has less. (here a p has).queue_within_size x less;
   none_dropped = λ a p has. (here a p has).none_dropped;
-  delivered_in_bound = deliveries_in_bound w v run good n h legal;
-  spared_arrive = spared_arrive w v run good n h t k legal k_lt n_is;
+  delivery_within_bound = deliveries_in_bound w v run good n h legal;
+  spared_frames_arrive = spared_frames_arrive w v run good n h t k legal k_lt n_is;
 }
   where
     here : (a p : ℕ) → has_port w.streams.rows a p ≡ true → PortIsTimely w h t v a p

@@ -22,13 +22,13 @@ EntriesObey w h v =
     (i : ℕ) (r : Row) → slice_get w.streams.rows i ≡ Some r → is_stream r ≡ true → (hop a : ℕ) → TakesAt r hop a → StreamObeys w h a r.prio i (v.burst i hop) (rate_of r)
 
 -- An express frame that is delivered is so at most its stream's bound after its send.
-abbrev pub DeliveredInBound : Scenario → History → Values → Type 0
-DeliveredInBound w h v =
+abbrev pub DeliveryWithinBound : Scenario → History → Values → Type 0
+DeliveryWithinBound w h v =
     (j : ℕ) (d : Delivery) → slice_get (Deliveries h) j ≡ Some d → IsExpressFrame w d.frame → d.tick ≤ (send w d.frame).send.tick.0 + v.bound (stream_of w d.frame)
 
 -- An express frame that no loss or damage line names is delivered, with its octets, where its bound is over.
-abbrev pub SparedArrive : Scenario → History → (done : ℕ) → Values → Type 0
-SparedArrive w h done v =
+abbrev pub SparedFramesArrive : Scenario → History → (done : ℕ) → Values → Type 0
+SparedFramesArrive w h done v =
     (f : ℕ) → f < length w.script.sends → IsExpressFrame w f → Spared w h f → (send w f).send.tick.0 + v.bound (stream_of w f) < done
     → Any (λ (d : Delivery). (d.frame ≡ f) × (d.octets ≡ FrameOf w f)) (Deliveries h)
 
@@ -39,5 +39,5 @@ pub record Timely (w : Scenario) (h : History) (done : ℕ) (v : Values) : Type 
   pub begun_in_time : (a p j : ℕ) (r : RingEntry) → has_port w.streams.rows a p ≡ true → slice_get (Entries h a p) j ≡ Some r → IsOnTime w h a done (v.delay a p) r
   pub queue_within_size : (a p t : ℕ) → has_port w.streams.rows a p ≡ true → t < done → waiting_octets w h a p t ≤ v.size a p
   pub none_dropped : (a p : ℕ) → has_port w.streams.rows a p ≡ true → Every (λ (r : RingEntry). r.entered ≡ true) (Entries h a p)
-  pub delivered_in_bound : DeliveredInBound w h v
-  pub spared_arrive : SparedArrive w h done v
+  pub delivery_within_bound : DeliveryWithinBound w h v
+  pub spared_frames_arrive : SparedFramesArrive w h done v
