@@ -1,5 +1,6 @@
 -- What is needed of the files of a run.
 use Rattle.std.specs.Prelude.{ℕ, ◌==◌, ◌<◌, ◌≤◌, ◌≡◌, List, length, map, filter, slice_get, Some, All, AllPairs}
+use Rattle.pre_base.specs.declared.limits.TheConstants.{LEAST_FRAME}
 use Rattle.pre_base.specs.declared.numbers.Send.{Send}
 use Rattle.pre_curve.specs.declared.curves.Curve.{Curve}
 use Rattle.pre_curve.specs.Windows.{Obeys, offers_of}
@@ -17,7 +18,7 @@ sends_of w i = map (λ s. s.send) (filter (λ s. s.send.stream.0 == i) w.script.
 -- the frame is of a row, and of a size that the row allows
 pub record IsFrame (w : Scenario) (f : ℕ) : Type 0 where
   pub listed : slice_get w.streams.rows (stream_of w f) ≡ Some (row w f)
-  pub least : 64 ≤ (send w f).send.size
+  pub least : LEAST_FRAME ≤ (send w f).send.size
   pub most : (send w f).send.size ≤ (row w f).max
 
 -- The rules of the files, as far as delays need them, and the sends of each stream obey its curve.

@@ -89,7 +89,7 @@ pub fn growth_law()
 
 /// In each history of a run that is legal up to a moment, and in each that is legal to its end, a good certificate keeps its word:
 /// entries obey, frames begin in time, queues are within their sizes and drop nothing, what is delivered is within its bound, and
-/// spared frames arrive. Nothing is asked of what flows send, of changes, of losses or of damage, nor of the ranks.
+/// spared frames arrive. Nothing is asked of how much flows send, of changes, of losses or of damage, nor of the ranks.
 pub fn network_law()
     ensures so_far { (w : Scenario) (v : Values) (n : ℕ) (h : History) → IsRun w → AreGood w.net w.streams.rows v → LegalUpTo w n h → Timely w h (ticks_over w n) v }
     ensures whole { (w : Scenario) (v : Values) (h : History) → IsRun w → AreGood w.net w.streams.rows v → Legal w h → Timely w h (w.script.until.0 + 1) v }
