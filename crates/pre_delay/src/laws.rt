@@ -21,7 +21,9 @@ ghost use Rattle.pre_delay.specs.Ticks.{ObeysTicks, Passed, is_from_to};
 ghost use Rattle.pre_bound.specs.Settled.{PriosBelow};
 ghost use Rattle.pre_bound.specs.Good.{AreGood};
 ghost use Rattle.pre_bound.specs.Uses.{TakesAt, has_port, is_stream, rate_of};
+ghost use Rattle.pre_bound.specs.Listed.{GoodCertificate};
 ghost use Rattle.pre_bound.specs.Values.{Values};
+ghost use Rattle.pre_bound.specs.declared.certificate.Certificate.{Certificate};
 ghost use Rattle.pre_delay.specs.Ports.{IsOnTime, PortIsTimely, PortObeys, StreamObeys, stream_of};
 ghost use Rattle.pre_history.specs.Examples.{LosesOneFrame, SendsFirst, SendsOneFrame, lost_frame, one_frame};
 ghost use Rattle.pre_delay.specs.Example.{pair_numbers};
@@ -93,6 +95,7 @@ pub fn growth_law()
 pub fn network_law()
     ensures so_far { (w : Scenario) (v : Values) (n : ℕ) (h : History) → IsRun w → AreGood w.net w.streams.rows v → LegalUpTo w n h → Timely w h (ticks_over w n) v }
     ensures whole { (w : Scenario) (v : Values) (h : History) → IsRun w → AreGood w.net w.streams.rows v → Legal w h → Timely w h (w.script.until.0 + 1) v }
+    ensures certified { (w : Scenario) (c : Certificate) (h : History) → IsRun w → (good : GoodCertificate w.net w.streams c) → Legal w h → Timely w h (w.script.until.0 + 1) good.values }
 {}
 
 /// The premises can be met: with the built-in network and streams, which fit it as `pair` ensures, a script that sends one frame is a

@@ -10,3 +10,6 @@ returns-clause-so_far c = λ w v n h run good legal.
 
 pub returns-clause-whole : goal.returns-clause-whole
 returns-clause-whole c = timely_at_end
+
+pub returns-clause-certified : goal.returns-clause-certified
+returns-clause-certified c = λ w cert h run good legal. timely_at_end w good.values h run good.good legal
