@@ -1,2 +1,10 @@
 pub mod Listing
 pub mod Breaking
+pub mod Lists
+pub mod Agreeing
+pub mod Testing
+pub mod Stepping
+pub mod Finding
+pub mod Sizes
+pub mod Holding
+pub mod Judging
