@@ -1,11 +1,10 @@
 -- The first line at which a test fails is the first at which its clause does.
-use Rattle.std.proofs.Common.{◌≡◌, ℕ, ◌+◌, ◌-◌, ◌^◌, ◌<◌, ◌≤◌, Bool, true, false, cond, List, Option, Some, None, refl, sym, ◌∙◌, ap, subst, arith, inl, inr, length, get_or, map}
-use Rattle.std.specs.Prelude.{slice_get, not, position, min}
+use Rattle.std.proofs.Common.{◌≡◌, ℕ, ◌+◌, ◌^◌, ◌<◌, Bool, true, false, cond, List, Option, Some, None, refl, sym, ◌∙◌, ap, subst, arith, inl, inr, length, get_or, map}
+use Rattle.std.specs.Prelude.{slice_get, not}
 use Rattle.std.specs.Option.{option_map}
 use Rattle.std.specs.List.{position_or_len}
 use Rattle.std.proofs.Math.Nat.{min-eq_left}
-use Rattle.std.proofs.lemmas.Bool.{cases_lt, lt-ltb, cases_Bool, true≢false, not_from_true, not_from_false}
-use Rattle.std.proofs.lemmas.List.{length-map}
+use Rattle.std.proofs.lemmas.Bool.{cases_lt, lt-ltb, true≢false}
 use Rattle.std.proofs.lemmas.List.Sums.{fails_before_first}
 use Rattle.std.proofs.lemmas.List.Quantifiers.{position-Some}
 use Rattle.std.proofs.lemmas.Option.{slice_get_within, get_or_from_slice_get, slice_get-get_or}
@@ -62,8 +61,7 @@ module _ {A R : Type 0} (f : A → R) (test : R → Bool) (P : A → Type 0) (it
   found from other same small (Some k) e =
       let one = one_fails k e in
       let inside = slice_get_within items k one.0 one.1 in
-      let exact : later other k ≡ from + k = ap (λ n. later n k) same ∙ min-eq_left (omega (arith, inside, small)) in
-      (
+      let exact : later other k ≡ from + k = ap (λ n. later n k) same ∙ min-eq_left (omega (arith, inside, small)) in (
         λ q. one.2 (q k one.0 one.1 (sym exact)),
         λ line less place x at q. before_fails k e place x (omega (arith, less, q, exact)) at,
       )

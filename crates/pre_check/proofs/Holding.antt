@@ -1,6 +1,6 @@
 -- Numbers are good exactly where each clause holds at each line.
-use Rattle.std.proofs.Common.{◌≡◌, ℕ, ◌+◌, ◌*◌, ◌/◌, ◌%◌, ◌<◌, ◌≤◌, Bool, true, false, cond, List, [], ◌∷◌, Some, refl, sym, ◌∙◌, ap, subst, arith, inl, inr, length, is_some}
-use Rattle.std.specs.Prelude.{slice_get, filter, sum_by, IsTrue, Contains}
+use Rattle.std.proofs.Common.{◌≡◌, ℕ, ◌+◌, ◌*◌, ◌/◌, ◌%◌, ◌<◌, Bool, true, false, cond, List, [], ◌∷◌, Some, refl, sym, ◌∙◌, ap, subst, arith, inl, inr, length, is_some}
+use Rattle.std.specs.Prelude.{slice_get, filter, sum_by, IsTrue}
 use Rattle.std.specs.List.{list_any}
 use Rattle.std.proofs.lemmas.Bool.{cases_Bool, or_parts}
 use Rattle.std.proofs.lemmas.Option.{slice_get-get_or}
@@ -8,18 +8,17 @@ use Rattle.pre_topo.specs.declared.network.Network.{Network}
 use Rattle.pre_streams.specs.declared.rows.Row.{Row}
 use Rattle.pre_streams.specs.declared.rows.Streams.{Streams}
 use Rattle.pre_streams.specs.Fits.{Fits}
-use Rattle.pre_bound.specs.Uses.{TakesAt, Follows, is_on, has_arc, has_port, rate_of, rates_on, cost_at}
+use Rattle.pre_bound.specs.Uses.{TakesAt, Follows, is_on, has_arc, has_port, rate_of, cost_at}
 use Rattle.pre_bound.specs.Values.{Values}
-use Rattle.pre_bound.specs.Clauses.{RankOrder, Load, FirstBurst, Block, Work, Delay, Growth, Size, Ring, Bound, Largest}
+use Rattle.pre_bound.specs.Clauses.{Load, Block, Work, Delay, Size, Ring}
 use Rattle.pre_bound.specs.Good.{IsStream, AreGood, AreInOrder}
 use Rattle.pre_bound.specs.Settled.{PriosBelow}
 use Rattle.pre_bound.specs.Places.{ports_of}
 use Rattle.pre_bound.proofs.Hops.{TakesAt-place, contains_at}
-use Rattle.pre_bound.proofs.Within.{ArcsWithin-fits}
 use Rattle.pre_check.specs.Lines.{Clause, HoldsAt, arcs_from, ports_from, hops_from, bounds_from}
 use Rattle.pre_check.specs.Lines as clause
 use Rattle.pre_check.proofs.Stepping.{same_row}
-use Rattle.pre_check.proofs.Agreeing.{has_arc_due, arc_due, has_port_due, PortDue, port_due, has_stream_due, stream_due, has_hop_due, HopDue, hop_due}
+use Rattle.pre_check.proofs.Agreeing.{has_arc_due, arc_due, has_port_due, port_due, has_stream_due, stream_due, has_hop_due, HopDue, hop_due}
 
 -- each clause at each line
 abbrev pub HoldAll : Network → List Row → Values → Type 0

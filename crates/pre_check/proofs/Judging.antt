@@ -1,8 +1,6 @@
 -- The verdict on a certificate: accepted exactly where it is good, else the first clause that fails with its first line.
-use Rattle.std.proofs.Common.{◌≡◌, ℕ, ◌+◌, ◌-◌, ◌/◌, ◌%◌, ◌<◌, ◌≤◌, true, List, [], ◌∷◌, Option, Some, None, refl, sym, ◌∙◌, ap, subst, arith, inl, inr, length, get_or}
-use Rattle.std.specs.Prelude.{IsTrue}
+use Rattle.std.proofs.Common.{◌≡◌, ℕ, ◌+◌, ◌-◌, ◌/◌, ◌%◌, ◌<◌, ◌≤◌, List, [], ◌∷◌, Option, Some, None, refl, sym, ◌∙◌, ap, subst, arith, inl, inr, length, get_or}
 use Rattle.std.proofs.lemmas.Bool.{cases_lt}
-use Rattle.pre_base.specs.declared.numbers.ArcId.{ArcId}
 use Rattle.pre_base.specs.declared.numbers.StreamId.{StreamId}
 use Rattle.pre_topo.specs.declared.network.Network.{Network}
 use Rattle.pre_streams.specs.declared.rows.Row.{Row}
@@ -145,73 +143,136 @@ module _ (net : Network) (streams : Streams) (c : Certificate) (v : Values) (fit
       let rows = streams.rows in
       let ports = ports_begin net streams c v fits says in
       let hops = hops_begin net streams c v fits says in
-      let bounds = bounds_begin net streams c v fits says in
-      (record { which = clause.rank_order; number_is = refl; first = first_at (hop_row v) (rank_rises rows c.arcs) (RankOrderAt rows v) (hops_of rows) no_hop
-        (λ i e at. rank_sound net streams c v fits prios says e (hop_due rows i e at))
-        (λ i e at. rank_complete net streams c v fits prios says e (hop_due rows i e at))
-        c.hops says.hops (hops_from net rows) (hop_lines c.arcs c.ports) hops hop_small },
-      (record { which = clause.load; number_is = refl; first = first_at (arc_row v) (load_fits net rows) (Load net rows) (arcs_of net rows) no_arc
-        (λ i a at. load_sound net rows v a)
-        (λ i a at. load_complete net rows v a)
-        c.arcs says.arcs arcs_from 2 refl arc_small },
-      (record { which = clause.first_burst; number_is = refl; first = first_at (hop_row v) (burst_begins rows) (FirstBurstAt rows v) (hops_of rows) no_hop
-        (λ i e at. first_sound net streams c v fits prios says e)
-        (λ i e at. first_complete net streams c v fits prios says e)
-        c.hops says.hops (hops_from net rows) (hop_lines c.arcs c.ports) hops hop_small },
-      (record { which = clause.block; number_is = refl; first = first_at (port_row v) (block_covers net rows c.arcs) (λ k. Block net rows v (k / 8) (k % 8)) (ports_of net rows) no_port
-        (λ i k at. block_sound net streams c v fits prios says k (port_due net rows i k at))
-        (λ i k at. block_complete net streams c v fits prios says k (port_due net rows i k at))
-        c.ports says.ports (ports_from net rows) (port_lines c.arcs) ports port_small },
-      (record { which = clause.work; number_is = refl; first = first_at (port_row v) (work_covers net rows c.hops) (λ k. Work net rows v (k / 8) (k % 8)) (ports_of net rows) no_port
-        (λ i k at. work_sound net streams c v fits prios says k)
-        (λ i k at. work_complete net streams c v fits prios says k)
-        c.ports says.ports (ports_from net rows) (port_lines c.arcs) ports port_small },
-      (record { which = clause.delay; number_is = refl; first = first_at (port_row v) (delay_covers net) (λ k. Delay net v (k / 8) (k % 8)) (ports_of net rows) no_port
-        (λ i k at. delay_sound net streams c v fits prios says k)
-        (λ i k at. delay_complete net streams c v fits prios says k)
-        c.ports says.ports (ports_from net rows) (port_lines c.arcs) ports port_small },
-      (record { which = clause.growth; number_is = refl; first = first_at (hop_row v) (growth_covers net rows c.ports c.hops) (GrowthAt net rows v) (hops_of rows) no_hop
-        (λ i e at. growth_sound net streams c v fits prios says e (hop_due rows i e at))
-        (λ i e at. growth_complete net streams c v fits prios says e (hop_due rows i e at))
-        c.hops says.hops (hops_from net rows) (hop_lines c.arcs c.ports) hops hop_small },
-      (record { which = clause.size; number_is = refl; first = first_at (port_row v) (size_covers rows c.hops) (λ k. Size rows v (k / 8) (k % 8)) (ports_of net rows) no_port
-        (λ i k at. size_sound net streams c v fits prios says k)
-        (λ i k at. size_complete net streams c v fits prios says k)
-        c.ports says.ports (ports_from net rows) (port_lines c.arcs) ports port_small },
-      (record { which = clause.ring; number_is = refl; first = first_at (port_row v) (ring_fits net) (λ k. Ring net v (k / 8) (k % 8)) (ports_of net rows) no_port
-        (λ i k at. ring_sound net streams c v fits prios says k)
-        (λ i k at. ring_complete net streams c v fits prios says k)
-        c.ports says.ports (ports_from net rows) (port_lines c.arcs) ports port_small },
-      (record { which = clause.bound; number_is = refl; first = first_at (bound_row v) (bound_covers net rows c.ports) (λ e. Bound net v e.0 e.1) (streams_of rows) no_bound
-        (λ i e at. bound_sound net streams c v fits prios says e (stream_due rows i e at))
-        (λ i e at. bound_complete net streams c v fits prios says e (stream_due rows i e at))
-        c.bounds says.bounds (bounds_from net rows) (bound_lines c.arcs c.ports c.hops) bounds bound_small },
-      (record { which = clause.largest; number_is = refl; first = first_at (arc_row v) (largest_covers net rows) (Largest net rows v) (arcs_of net rows) no_arc
-        (λ i a at. largest_sound net rows v a)
-        (λ i a at. largest_complete net rows v a)
-        c.arcs says.arcs arcs_from 2 refl arc_small },
-      refl)))))))))))
+      let bounds = bounds_begin net streams c v fits says in (
+        record {
+          which = clause.rank_order;
+          number_is = refl;
+          first = first_at (hop_row v) (rank_rises rows c.arcs) (RankOrderAt rows v) (hops_of rows) no_hop
+              (λ i e at. rank_sound net streams c v fits prios says e (hop_due rows i e at))
+              (λ i e at. rank_complete net streams c v fits prios says e (hop_due rows i e at))
+              c.hops says.hops (hops_from net rows) (hop_lines c.arcs c.ports) hops hop_small;
+        },
+        (
+          record {
+            which = clause.load;
+            number_is = refl;
+            first = first_at (arc_row v) (load_fits net rows) (Load net rows) (arcs_of net rows) no_arc
+                (λ i a at. load_sound net rows v a)
+                (λ i a at. load_complete net rows v a)
+                c.arcs says.arcs arcs_from 2 refl arc_small;
+          },
+          (
+            record {
+              which = clause.first_burst;
+              number_is = refl;
+              first = first_at (hop_row v) (burst_begins rows) (FirstBurstAt rows v) (hops_of rows) no_hop
+                  (λ i e at. first_sound net streams c v fits prios says e)
+                  (λ i e at. first_complete net streams c v fits prios says e)
+                  c.hops says.hops (hops_from net rows) (hop_lines c.arcs c.ports) hops hop_small;
+            },
+            (
+              record {
+                which = clause.block;
+                number_is = refl;
+                first = first_at (port_row v) (block_covers net rows c.arcs) (λ k. Block net rows v (k / 8) (k % 8)) (ports_of net rows) no_port
+                    (λ i k at. block_sound net streams c v fits prios says k (port_due net rows i k at))
+                    (λ i k at. block_complete net streams c v fits prios says k (port_due net rows i k at))
+                    c.ports says.ports (ports_from net rows) (port_lines c.arcs) ports port_small;
+              },
+              (
+                record {
+                  which = clause.work;
+                  number_is = refl;
+                  first = first_at (port_row v) (work_covers net rows c.hops) (λ k. Work net rows v (k / 8) (k % 8)) (ports_of net rows) no_port
+                      (λ i k at. work_sound net streams c v fits prios says k)
+                      (λ i k at. work_complete net streams c v fits prios says k)
+                      c.ports says.ports (ports_from net rows) (port_lines c.arcs) ports port_small;
+                },
+                (
+                  record {
+                    which = clause.delay;
+                    number_is = refl;
+                    first = first_at (port_row v) (delay_covers net) (λ k. Delay net v (k / 8) (k % 8)) (ports_of net rows) no_port
+                        (λ i k at. delay_sound net streams c v fits prios says k)
+                        (λ i k at. delay_complete net streams c v fits prios says k)
+                        c.ports says.ports (ports_from net rows) (port_lines c.arcs) ports port_small;
+                  },
+                  (
+                    record {
+                      which = clause.growth;
+                      number_is = refl;
+                      first = first_at (hop_row v) (growth_covers net rows c.ports c.hops) (GrowthAt net rows v) (hops_of rows) no_hop
+                          (λ i e at. growth_sound net streams c v fits prios says e (hop_due rows i e at))
+                          (λ i e at. growth_complete net streams c v fits prios says e (hop_due rows i e at))
+                          c.hops says.hops (hops_from net rows) (hop_lines c.arcs c.ports) hops hop_small;
+                    },
+                    (
+                      record {
+                        which = clause.size;
+                        number_is = refl;
+                        first = first_at (port_row v) (size_covers rows c.hops) (λ k. Size rows v (k / 8) (k % 8)) (ports_of net rows) no_port
+                            (λ i k at. size_sound net streams c v fits prios says k)
+                            (λ i k at. size_complete net streams c v fits prios says k)
+                            c.ports says.ports (ports_from net rows) (port_lines c.arcs) ports port_small;
+                      },
+                      (
+                        record {
+                          which = clause.ring;
+                          number_is = refl;
+                          first = first_at (port_row v) (ring_fits net) (λ k. Ring net v (k / 8) (k % 8)) (ports_of net rows) no_port
+                              (λ i k at. ring_sound net streams c v fits prios says k)
+                              (λ i k at. ring_complete net streams c v fits prios says k)
+                              c.ports says.ports (ports_from net rows) (port_lines c.arcs) ports port_small;
+                        },
+                        (
+                          record {
+                            which = clause.bound;
+                            number_is = refl;
+                            first = first_at (bound_row v) (bound_covers net rows c.ports) (λ e. Bound net v e.0 e.1) (streams_of rows) no_bound
+                                (λ i e at. bound_sound net streams c v fits prios says e (stream_due rows i e at))
+                                (λ i e at. bound_complete net streams c v fits prios says e (stream_due rows i e at))
+                                c.bounds says.bounds (bounds_from net rows) (bound_lines c.arcs c.ports c.hops) bounds bound_small;
+                          },
+                          (
+                            record {
+                              which = clause.largest;
+                              number_is = refl;
+                              first = first_at (arc_row v) (largest_covers net rows) (Largest net rows v) (arcs_of net rows) no_arc
+                                  (λ i a at. largest_sound net rows v a)
+                                  (λ i a at. largest_complete net rows v a)
+                                  c.arcs says.arcs arcs_from 2 refl arc_small;
+                            },
+                            refl,
+                          ),
+                        ),
+                      ),
+                    ),
+                  ),
+                ),
+              ),
+            ),
+          ),
+        ),
+      )
 
 pub judged : (net : Network) (streams : Streams) (c : Certificate) (v : Values) → Fits net streams → PriosBelow streams.rows → Says net streams.rows c v → (r : Verdict) → r ≡ first_from 1 (breaches net streams.rows c.arcs c.ports c.hops c.bounds)
     → (r ≡ Accepted → HoldAll net streams.rows v) × ((number row : ℕ) → r ≡ Rejected number row → IsFirstBreach net streams.rows v number row)
 judged net streams c v fits prios says r is =
     let rows = streams.rows in
     let first = are_first net streams c v fits prios says in
-    let os = breaches net rows c.arcs c.ports c.hops c.bounds in
-    (
+    let os = breaches net rows c.arcs c.ports c.hops c.bounds in (
       λ e. all_hold net rows v 1 os first (none_below net rows v) (sym is ∙ e),
       λ number row e. one_breaks net rows v 1 os first (none_below net rows v) number row (sym is ∙ e),
     )
 
 pub accepted : (net : Network) (streams : Streams) (c : Certificate) → Fits net streams → PriosBelow streams.rows → HasRows net streams.rows c → (r : Verdict) → r ≡ first_from 1 (breaches net streams.rows c.arcs c.ports c.hops c.bounds)
     → (r ≡ Accepted → GoodCertificate net streams c) × (GoodCertificate net streams c → r ≡ Accepted)
-accepted net streams c fits prios has r is =
-    (
-      λ e.
+accepted net streams c fits prios has r is = (
+  λ e.
       let hold = (judged net streams c has.0 fits prios has.1 r is).0 e in
       record { values = has.0; says = has.1; order = order_from net streams has.0 fits prios hold; good = good_from net streams has.0 fits prios hold },
-      λ good. accepts good r is,
-    )
+  λ good. accepts good r is,
+)
   where
     accepts : GoodCertificate net streams c → (q : Verdict) → q ≡ first_from 1 (breaches net streams.rows c.arcs c.ports c.hops c.bounds) → q ≡ Accepted
     accepts good Accepted e = refl

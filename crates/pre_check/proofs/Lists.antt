@@ -1,8 +1,8 @@
 -- Elements of lists by their places, look-ups by a key, and sums of the same terms.
-use Rattle.std.proofs.Common.{◌≡◌, ◌⊎◌, ℕ, zero, suc, ◌+◌, ◌<◌, ◌≤◌, Bool, true, false, cond, List, [], ◌∷◌, ◌++◌, Some, None, refl, sym, ◌∙◌, ap, subst, arith, inl, inr, length, map}
-use Rattle.std.specs.Prelude.{slice_get, filter, sum_by, not, position}
+use Rattle.std.proofs.Common.{◌≡◌, ◌⊎◌, ℕ, zero, suc, ◌+◌, Bool, true, false, cond, List, [], ◌∷◌, ◌++◌, Some, refl, sym, ◌∙◌, ap, subst, arith, inl, inr, map}
+use Rattle.std.specs.Prelude.{slice_get, filter, sum_by}
 use Rattle.std.specs.Option.{option_map_or}
-use Rattle.std.specs.List.{enumerate_from, flat_map, find, list_all, list_any}
+use Rattle.std.specs.List.{enumerate_from, flat_map, find, list_all}
 use Rattle.std.proofs.lemmas.Bool.{cases_Bool, and_parts, and_from}
 use Rattle.std.proofs.lemmas.List.Sums.{sum_by-cons}
 use Rattle.pre_bound.proofs.Sums.{sum_by-filter-cons}

@@ -1,7 +1,7 @@
 -- How many lines a certificate has, and where those of each kind begin.
-use Rattle.std.proofs.Common.{◌≡◌, ℕ, ◌+◌, ◌-◌, ◌*◌, ◌/◌, ◌%◌, ◌^◌, ◌<◌, ◌≤◌, Bool, List, Some, sym, ◌∙◌, ap, subst, arith, length, get_or, map}
-use Rattle.std.specs.Prelude.{slice_get, filter, All, Contains}
-use Rattle.std.specs.List.{enumerate_from, flat_map, range_with_len}
+use Rattle.std.proofs.Common.{◌≡◌, ℕ, ◌*◌, ◌/◌, ◌%◌, ◌≤◌, Bool, List, ◌∙◌, ap, subst, arith, length, get_or, map}
+use Rattle.std.specs.Prelude.{filter, All, Contains}
+use Rattle.std.specs.List.{enumerate_from, range_with_len}
 use Rattle.std.proofs.Math.Nat.{min-eq_left}
 use Rattle.std.proofs.lemmas.List.{length-map}
 use Rattle.std.proofs.lemmas.List.Concat.{length-flat_map}
@@ -16,11 +16,10 @@ use Rattle.pre_bound.specs.declared.rows.ArcRow.{ArcRow}
 use Rattle.pre_bound.specs.declared.certificate.Certificate.{Certificate}
 use Rattle.pre_bound.specs.Uses.{is_stream, has_arc, has_port}
 use Rattle.pre_bound.specs.Values.{Values}
-use Rattle.pre_bound.specs.Good.{IsStream}
 use Rattle.pre_bound.specs.Places.{arcs_of, ports_of, streams_of, hops_of}
 use Rattle.pre_bound.specs.Listed.{Says, arc_row, port_row, hop_row}
 use Rattle.pre_bound.proofs.Hops.{contains_at}
-use Rattle.pre_check.specs.Lines.{arcs_from, ports_from, hops_from, bounds_from}
+use Rattle.pre_check.specs.Lines.{ports_from, hops_from, bounds_from}
 use Rattle.pre_check.specs.Breaches.{later, port_lines, hop_lines, bound_lines}
 use Rattle.pre_check.proofs.Agreeing.{stream_due}
 
@@ -57,14 +56,14 @@ few_hops net streams fits =
     let each : ℕ × Row → List (ℕ × ℕ) = λ e. map (λ hop. (e.0, hop)) (range_with_len 0 (length e.1.arcs)) in
     let all = length-flat_map each (streams_of streams.rows) in
     let short : All (λ e. length (each e) ≤ 16) (streams_of streams.rows) =
-        λ k d inside.
-        let e = get_or (streams_of streams.rows) k d in
-        let is = stream_due streams.rows k e (slice_get-get_or (streams_of streams.rows) k d inside) in
-        let one = length-map {B = ℕ × ℕ} (range_with_len 0 (length e.1.arcs)) (λ (hop : ℕ). (e.0, hop)) in
-        let range = length-range_with_len 0 (length e.1.arcs) in
-        let most = short_route net streams fits e.1 (contains_at streams.rows e.0 e.1 is.row) in
-        omega (arith, one, range, most)
-        in
+    λ k d inside.
+    let e = get_or (streams_of streams.rows) k d in
+    let is = stream_due streams.rows k e (slice_get-get_or (streams_of streams.rows) k d inside) in
+    let one = length-map {B = ℕ × ℕ} (range_with_len 0 (length e.1.arcs)) (λ (hop : ℕ). (e.0, hop)) in
+    let range = length-range_with_len 0 (length e.1.arcs) in
+    let most = short_route net streams fits e.1 (contains_at streams.rows e.0 e.1 is.row) in
+    omega (arith, one, range, most)
+    in
     let sum = sum_by-le (λ e. length (each e)) 16 (streams_of streams.rows) short in
     let few = few_streams streams in
     omega (arith, all, sum, few)

@@ -1,6 +1,6 @@
 -- Whether a hop behind another passes the tests of rank order and of growth exactly where these clauses hold there.
-use Rattle.std.proofs.Common.{◌≡◌, ℕ, ◌+◌, ◌-◌, ◌*◌, ◌<◌, ◌≤◌, Bool, true, false, List, [], ◌∷◌, Option, Some, None, refl, sym, ◌∙◌, ap, subst, arith, inl, inr, length, is_some, if◌then◌else◌, eq-eqb}
-use Rattle.std.specs.Prelude.{slice_get, ◌==◌, nat_le, nat_lt, IsSome, option_and_then}
+use Rattle.std.proofs.Common.{◌≡◌, ℕ, ◌+◌, ◌-◌, ◌*◌, ◌<◌, ◌≤◌, Bool, true, false, List, Option, Some, None, refl, sym, ◌∙◌, ap, subst, arith, inl, inr, length, is_some, if◌then◌else◌, eq-eqb}
+use Rattle.std.specs.Prelude.{slice_get, ◌==◌, nat_le, nat_lt, option_and_then}
 use Rattle.std.specs.Option.{option_map, option_map_or}
 use Rattle.std.proofs.lemmas.Bool.{eqb-true, leb-true, ltb-true, le-leb, lt-ltb, cases_Bool, cases_lt, true≢false}
 use Rattle.std.proofs.lemmas.Option.{slice_get_within}
@@ -186,7 +186,7 @@ module _ (net : Network) (streams : Streams) (c : Certificate) (v : Values) (fit
       let b = taken r e.1 next there in
       let is = same_row streams.rows e.0 due.row r due.is at in
       let t : Row × ArcId × ArcId → Bool =
-          λ s. nat_le (1_000_000 * burst_in c.hops e.0 (e.1 - 1) + rate_of s.0 * (delay_in c.ports s.1.0 s.0.prio - 84 * cost_at net s.1.0)) (1_000_000 * v.burst e.0 e.1) in
+      λ s. nat_le (1_000_000 * burst_in c.hops e.0 (e.1 - 1) + rate_of s.0 * (delay_in c.ports s.1.0 s.0.prio - 84 * cost_at net s.1.0)) (1_000_000 * v.burst e.0 e.1) in
       let test = test_step t streams.rows (hop_row v e) r hop a.0 b.0 h (record { row = at; next = q; before = a.1; here = b.1 }) in
       let moved = subst (λ n. nat_le (1_000_000 * burst_in c.hops e.0 (e.1 - 1) + rate_of r * (delay_in c.ports n r.prio - 84 * cost_at net n)) (1_000_000 * v.burst e.0 e.1) ≡ true) a.2 test in
       let said = grown_said e.0 r hop arc (e.1 - 1) is here (slice_get_within r.arcs hop a.0 a.1) (omega (arith, q)) in
@@ -196,7 +196,7 @@ module _ (net : Network) (streams : Streams) (c : Certificate) (v : Values) (fit
   pub growth_complete : (e : ℕ × ℕ) → HopDue streams.rows e → GrowthAt net streams.rows v e → growth_covers net streams.rows c.ports c.hops (hop_row v e) ≡ true
   growth_complete e due growth =
       let t : Row × ArcId × ArcId → Bool =
-          λ s. nat_le (1_000_000 * burst_in c.hops e.0 (e.1 - 1) + rate_of s.0 * (delay_in c.ports s.1.0 s.0.prio - 84 * cost_at net s.1.0)) (1_000_000 * v.burst e.0 e.1) in
+      λ s. nat_le (1_000_000 * burst_in c.hops e.0 (e.1 - 1) + rate_of s.0 * (delay_in c.ports s.1.0 s.0.prio - 84 * cost_at net s.1.0)) (1_000_000 * v.burst e.0 e.1) in
       option_test (steps_at streams.rows (hop_row v e)) t
       (λ s at.
       let step = steps_are streams.rows (hop_row v e) s at in

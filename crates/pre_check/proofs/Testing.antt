@@ -1,34 +1,28 @@
 -- Whether a row passes the test of a clause exactly where the clause holds there.
-use Rattle.std.proofs.Common.{◌≡◌, ℕ, zero, suc, ◌+◌, ◌-◌, ◌*◌, ◌/◌, ◌%◌, ◌<◌, ◌≤◌, Bool, true, false, List, [], ◌∷◌, Option, Some, None, refl, sym, ◌∙◌, ap, subst, arith, inl, inr, length, map, unwrap_or, is_some, if◌then◌else◌, eq-eqb}
-use Rattle.std.specs.Prelude.{slice_get, Contains, ◌==◌, ◌&&◌, ◌||◌, not, nat_le, nat_lt, IsTrue, IsSome, option_and_then}
-use Rattle.std.specs.Option.{option_map, option_map_or}
-use Rattle.std.specs.List.{list_all}
-use Rattle.std.proofs.lemmas.Bool.{eqb-true, and_parts, and_from, or_left, or_right, or_parts, leb-true, ltb-true, le-leb, lt-ltb, cases_Bool, true≢false, not_from_true, not_from_false}
+use Rattle.std.proofs.Common.{◌≡◌, ℕ, ◌+◌, ◌*◌, ◌/◌, ◌%◌, ◌<◌, ◌≤◌, Bool, true, false, List, Option, Some, None, refl, sym, ◌∙◌, ap, subst, if◌then◌else◌, eq-eqb}
+use Rattle.std.specs.Prelude.{slice_get, Contains, ◌==◌, ◌||◌, not, nat_le, IsTrue}
+use Rattle.std.specs.Option.{option_map_or}
+use Rattle.std.proofs.lemmas.Bool.{eqb-true, and_parts, and_from, leb-true, ltb-true, le-leb, lt-ltb, true≢false}
 use Rattle.std.proofs.lemmas.Option.{slice_get-get_or}
 use Rattle.pre_base.specs.declared.limits.TheConstants.{OVERHEAD}
-use Rattle.pre_base.specs.declared.numbers.ArcId.{ArcId}
 use Rattle.pre_topo.specs.declared.network.Network.{Network}
 use Rattle.pre_streams.specs.declared.rows.Row.{Row}
 use Rattle.pre_streams.specs.declared.rows.Streams.{Streams}
 use Rattle.pre_streams.specs.Fits.{Fits}
-use Rattle.pre_bound.specs.declared.rows.ArcRow.{ArcRow}
-use Rattle.pre_bound.specs.declared.rows.HopRow.{HopRow}
 use Rattle.pre_bound.specs.declared.certificate.Certificate.{Certificate}
-use Rattle.pre_bound.specs.Uses.{TakesAt, is_on, has_arc, has_port, has_flow, burst_of, rate_of, rates_on, cost_at, preemptable_at, largest_at}
+use Rattle.pre_bound.specs.Uses.{is_on, has_flow, burst_of, rates_on, cost_at, preemptable_at}
 use Rattle.pre_bound.specs.Along.{route_ticks}
-use Rattle.pre_bound.specs.Solutions.{CoversGrowth}
 use Rattle.pre_bound.specs.Values.{Values}
-use Rattle.pre_bound.specs.Clauses.{RankOrder, Load, Block, Work, Delay, Size, Ring, Bound, Largest, certified_bursts}
+use Rattle.pre_bound.specs.Clauses.{Load, Block, Work, Delay, Size, Ring, Bound, Largest}
 use Rattle.pre_bound.specs.Good.{IsStream}
 use Rattle.pre_bound.specs.Settled.{PriosBelow}
-use Rattle.pre_bound.specs.Places.{arcs_of}
 use Rattle.pre_bound.specs.Listed.{Says, arc_row, port_row, hop_row, bound_row}
-use Rattle.pre_bound.proofs.Hops.{contains_at, has_arc-from, has_arc-from_port}
-use Rattle.pre_check.specs.Lines.{RankOrderAt, FirstBurstAt, GrowthAt}
-use Rattle.pre_check.specs.Said.{rank_in, largest_in, delay_in, burst_in, are_ranked}
-use Rattle.pre_check.specs.Tests.{steps_at, rank_rises, load_fits, burst_begins, lower_fit, block_covers, bursts_in, work_covers, delay_covers, growth_covers, size_covers, ring_fits, bound_covers, largest_covers}
-use Rattle.pre_check.proofs.Lists.{all_at, all_from, at_map, from_map}
-use Rattle.pre_check.proofs.Agreeing.{PortDue, HopDue, has_arc_due, rank_said, largest_said, delay_said, burst_said, bursts_said, ticks_said, port_of_hop}
+use Rattle.pre_bound.proofs.Hops.{contains_at, has_arc-from_port}
+use Rattle.pre_check.specs.Lines.{FirstBurstAt}
+use Rattle.pre_check.specs.Said.{largest_in, delay_in}
+use Rattle.pre_check.specs.Tests.{load_fits, burst_begins, lower_fit, block_covers, work_covers, delay_covers, size_covers, ring_fits, bound_covers, largest_covers}
+use Rattle.pre_check.proofs.Lists.{all_at, all_from}
+use Rattle.pre_check.proofs.Agreeing.{PortDue, largest_said, bursts_said, ticks_said}
 
 -- arcs
 

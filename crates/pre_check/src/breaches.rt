@@ -34,8 +34,7 @@ fn rank_order(rows: &[Row], arcs: &[ArcRow], hops: &[HopRow]) -> Option<usize>
     ensures { result ≡ fails_at (rank_rises rows.now arcs.now) hops.now }
 {
     let ranked = are_ranked(arcs);
-    hops
-        .iter()
+    hops.iter()
         .position(|hop| !rank_rises(rows, arcs, ranked, hop))
 }
 
@@ -52,12 +51,7 @@ fn first_burst(rows: &[Row], hops: &[HopRow]) -> Option<usize>
     hops.iter().position(|hop| !burst_begins(rows, hop))
 }
 
-fn block(
-    net: &Network,
-    rows: &[Row],
-    arcs: &[ArcRow],
-    ports: &[PortRow],
-) -> Option<usize>
+fn block(net: &Network, rows: &[Row], arcs: &[ArcRow], ports: &[PortRow]) -> Option<usize>
     ensures { result ≡ fails_at (block_covers net.now rows.now arcs.now) ports.now }
 {
     ports
@@ -65,12 +59,7 @@ fn block(
         .position(|row| !block_covers(net, rows, arcs, row))
 }
 
-fn work(
-    net: &Network,
-    rows: &[Row],
-    hops: &[HopRow],
-    ports: &[PortRow],
-) -> Option<usize>
+fn work(net: &Network, rows: &[Row], hops: &[HopRow], ports: &[PortRow]) -> Option<usize>
     requires { length rows.now ≤ 512 }
     ensures { result ≡ fails_at (work_covers net.now rows.now hops.now) ports.now }
 {
@@ -85,16 +74,10 @@ fn delay(net: &Network, ports: &[PortRow]) -> Option<usize>
     ports.iter().position(|row| !delay_covers(net, row))
 }
 
-fn growth(
-    net: &Network,
-    rows: &[Row],
-    ports: &[PortRow],
-    hops: &[HopRow],
-) -> Option<usize>
+fn growth(net: &Network, rows: &[Row], ports: &[PortRow], hops: &[HopRow]) -> Option<usize>
     ensures { result ≡ fails_at (growth_covers net.now rows.now ports.now hops.now) hops.now }
 {
-    hops
-        .iter()
+    hops.iter()
         .position(|hop| !growth_covers(net, rows, ports, hops, hop))
 }
 

@@ -79,8 +79,8 @@ fn lower_fit(net: &Network, rows: &[Row], port: &PortRow) -> bool
 {
     let (arc, prio, block) = (port.arc, port.prio.number(), port.block);
     let cost = cost_at(net, arc);
-    rows.iter()
-        .all(|row| !is_on(row, arc, 0, prio) || cost * (u64::from(row.max) + OVERHEAD) <= block)
+    rows.iter().all(|row| !is_on(row, arc, 0, prio)
+        || cost * (u64::from(row.max) + OVERHEAD) <= block)
 }
 
 /// Block: it is as long as each thing that can hold the arc.

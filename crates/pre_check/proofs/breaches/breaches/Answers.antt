@@ -1,7 +1,6 @@
-use Rattle.std.proofs.Common.{ℕ, ◌≡◌, ◌∙◌, ap, length}
-use Rattle.std.specs.Option.{option_map}
+use Rattle.std.proofs.Common.{◌≡◌, ◌∙◌, ap, length}
 use Rattle.pre_check.specs.Tests.{rank_rises, load_fits, burst_begins, block_covers, work_covers, delay_covers, growth_covers, size_covers, ring_fits, bound_covers, largest_covers}
-use Rattle.pre_check.specs.Breaches.{breaches, later, fails_from, port_lines, hop_lines, bound_lines}
+use Rattle.pre_check.specs.Breaches.{later, fails_from, port_lines, hop_lines, bound_lines}
 use Rattle.pre_check.proofs.Breaking.{at_line, at_second}
 use Rattle.pre_check.proofs.breaches.breaches.Goals as goal
 

@@ -1,4 +1,4 @@
-use Rattle.std.proofs.Common.{◌≡◌, ℕ, ◌+◌, ◌∙◌, ap, sym, arith}
+use Rattle.std.proofs.Common.{◌≡◌, ℕ, ◌∙◌, ap, sym, arith}
 use Rattle.pre_streams.specs.declared.rows.Row.{Row}
 use Rattle.pre_bound.specs.Uses.{is_on, hop_of}
 use Rattle.pre_check.specs.Said.{burst_in}

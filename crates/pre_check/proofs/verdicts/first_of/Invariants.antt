@@ -1,4 +1,4 @@
-use Rattle.std.proofs.Common.{◌≡◌, ℕ, ◌+◌, length}
+use Rattle.std.proofs.Common.{◌≡◌, ◌+◌, length}
 use Rattle.pre_check.specs.Breaches.{first_from}
 use Rattle.pre_check.proofs.verdicts.first_of.Given as goal
 
