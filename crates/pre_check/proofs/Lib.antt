@@ -8,3 +8,6 @@ pub mod Finding
 pub mod Sizes
 pub mod Holding
 pub mod Judging
+pub mod Loops
+pub mod Dues
+pub mod Fitting

@@ -3,8 +3,13 @@
 
 mod breaches;
 mod clauses;
+mod drafts;
+mod due;
+mod reading;
 mod said;
+mod saying;
 mod uses;
 mod verdicts;
 
+pub use reading::{CertificateFault, read_certificate};
 pub use verdicts::{Verdict, judge};
