@@ -11,3 +11,6 @@ pub mod Judging
 pub mod Loops
 pub mod Dues
 pub mod Fitting
+pub mod Rising
+pub mod Keys
+pub mod Matching

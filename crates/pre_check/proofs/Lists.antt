@@ -74,7 +74,7 @@ has_behind : {X : Type 0} (xs ys : List X) (x : X) → Has ys x → Has (xs ++ y
 has_behind [] ys x h = h
 has_behind (y ∷ xs) ys x h = has_tail y x (xs ++ ys) (has_behind xs ys x h)
 
-from_append : {X : Type 0} (xs ys : List X) (i : ℕ) (x : X) → slice_get (xs ++ ys) i ≡ Some x → Has xs x ⊎ Has ys x
+pub from_append : {X : Type 0} (xs ys : List X) (i : ℕ) (x : X) → slice_get (xs ++ ys) i ≡ Some x → Has xs x ⊎ Has ys x
 from_append [] ys i x e = inr (i, e)
 from_append (y ∷ xs) ys zero x e = inl (0, e)
 from_append (y ∷ xs) ys (suc i) x e =

@@ -47,7 +47,7 @@ few_streams streams =
     let most = streams.few in
     omega (arith, few, all, most)
 
-short_route : (net : Network) (streams : Streams) → Fits net streams → (r : Row) → Contains streams.rows r → length r.arcs ≤ 16
+pub short_route : (net : Network) (streams : Streams) → Fits net streams → (r : Row) → Contains streams.rows r → length r.arcs ≤ 16
 short_route net streams fits r listed =
     subst (λ (x : Row). length x.arcs ≤ 16) listed.2 (let route = (fits.each listed.0 r listed.1).route in let long = route.long.1 in let hops = route.hops in omega (arith, long, hops))
 

@@ -1,4 +1,5 @@
 ghost use Rattle.std.specs.Prelude.{◌≡◌, ◌+◌, ◌^◌, ◌<◌, ◌∷◌, IfOk, OnOk, length};
+ghost use Rattle.pre_streams.specs.Fits.{Fits};
 ghost use Rattle.pre_check.specs.Lines.{HasRows};
 ghost use Rattle.pre_check.specs.Due.{due_lines};
 ghost use Rattle.pre_text.specs.Lines.{lines_of, numbered_lines};
@@ -52,7 +53,9 @@ pub fn read_certificate(
     net: &Network,
     streams: &Streams,
 ) -> Result<Certificate, CertificateFault>
+    requires { Fits net.now streams.now }
     ensures exact { ReadsAs result (certificate_of net.now streams.now text.now) }
+    ensures rows { IfOk result (HasRows net.now streams.now.rows) }
 {
     let due = due_lines(alloc, net, streams.rows.as_slice())?;
     read_lines(alloc, text, net, streams, due.as_slice())
