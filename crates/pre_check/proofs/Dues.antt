@@ -1,12 +1,11 @@
 -- The list of due lines, one line or one route further.
-use Rattle.std.proofs.Common.{◌≡◌, ℕ, ◌+◌, ◌/◌, ◌%◌, ◌<◌, true, false, List, [], ◌∷◌, ◌++◌, sym, ◌∙◌, ap, length, get_or, take, map}
-use Rattle.std.specs.Prelude.{filter}
-use Rattle.std.specs.List.{enumerate_from, flat_map, range_with_len}
+use Rattle.std.proofs.Common.{◌≡◌, ℕ, ◌+◌, ◌<◌, true, false, List, [], ◌∷◌, ◌++◌, sym, ◌∙◌, ap, length, get_or, take, map}
+use Rattle.std.specs.List.{flat_map, range_with_len}
 use Rattle.std.proofs.lemmas.List.{append_assoc, append-nil, map-append}
 use Rattle.std.proofs.lemmas.List.Concat.{flat_map-append}
 use Rattle.pre_streams.specs.declared.rows.Row.{Row}
 use Rattle.pre_bound.specs.Uses.{is_stream}
-use Rattle.pre_bound.specs.Places.{streams_of, hops_of}
+use Rattle.pre_bound.specs.Places.{streams_of}
 use Rattle.pre_check.specs.declared.due.Due.{Due}
 use Rattle.pre_check.specs.declared.due.Due.TheVariants as due
 use Rattle.pre_check.specs.Due.{due_hop, due_hops, due_bounds}

@@ -1,9 +1,8 @@
 -- A line that is read says a row that is due, with no number above the limit.
-use Rattle.std.proofs.Common.{◌≡◌, ℕ, ◌+◌, ◌≤◌, Bool, true, false, List, [], ◌∷◌, ◌++◌, Option, Some, None, Result, Ok, Err, refl, sym, ◌∙◌, ap, subst, arith, inl, inr, length, map, is_some, if◌then◌else◌, unwrap_or}
-use Rattle.std.specs.Prelude.{slice_get, ◌==◌, ◌&&◌, nat_le, not, codes, All}
-use Rattle.std.specs.Option.{option_map_or}
+use Rattle.std.proofs.Common.{◌≡◌, ℕ, ◌≤◌, Bool, true, false, List, [], ◌∷◌, Option, Some, None, Result, Ok, Err, refl, sym, ◌∙◌, ap, subst, arith, is_some, if◌then◌else◌, unwrap_or}
+use Rattle.std.specs.Prelude.{slice_get, ◌==◌, ◌&&◌, not, codes}
 use Rattle.std.specs.Str.{bytes_eq}
-use Rattle.std.proofs.lemmas.Bool.{eqb-true, leb-true, and_parts, cases_Bool, true≢false}
+use Rattle.std.proofs.lemmas.Bool.{eqb-true, leb-true, and_parts}
 use Rattle.std.proofs.lemmas.List.Elements.{All-push, All-nil}
 use Rattle.pre_text.specs.Words.{number_of}
 use Rattle.pre_text.specs.Lines.{words_of}
@@ -12,17 +11,16 @@ use Rattle.pre_topo.specs.declared.network.Network.{Network}
 use Rattle.pre_streams.specs.declared.rows.Row.{Row}
 use Rattle.pre_streams.specs.declared.rows.Streams.{Streams}
 use Rattle.pre_bound.specs.declared.rows.ArcRow.{ArcRow}
-use Rattle.pre_bound.specs.declared.rows.PortRow.{PortRow}
 use Rattle.pre_bound.specs.declared.rows.HopRow.{HopRow}
-use Rattle.pre_bound.specs.Limits.{limit, ArcIsWithin, PortIsWithin, IsWithin}
+use Rattle.pre_bound.specs.Limits.{limit, ArcIsWithin, PortIsWithin}
 use Rattle.pre_bound.specs.Uses.{has_flow}
 use Rattle.pre_check.specs.declared.due.Due.{Due}
 use Rattle.pre_check.specs.declared.due.Due.TheVariants as due
 use Rattle.pre_check.specs.declared.saying.Said.{Said}
 use Rattle.pre_check.specs.declared.saying.Said.TheVariants as said
 use Rattle.pre_check.specs.Due.{is_arc, is_stream_named, is_first, is_end, arc_due, port_due, hop_due, bound_due}
-use Rattle.pre_check.specs.Saying.{arc_of, arc_said, bound_of, bound_said, end_said, first_said, given, hop_of, hop_said, is_small, kept, large_rule, no_words, number_rule, old_arc, old_arc_of, old_largest, one, port_numbers, port_of, port_said, ranked_arc, row_rule, said_by, six, split, three, two, unranked_arc, version_of, word_rule}
-use Rattle.pre_check.specs.Seen.{Seen, Rows, nothing_seen, with_said}
+use Rattle.pre_check.specs.Saying.{arc_of, arc_said, bound_said, end_said, first_said, given, hop_said, is_small, kept, large_rule, no_words, number_rule, old_arc, old_arc_of, old_largest, one, port_of, port_said, ranked_arc, row_rule, said_by, six, split, three, two, unranked_arc, version_of, word_rule}
+use Rattle.pre_check.specs.Seen.{Seen, nothing_seen, with_said}
 use Rattle.pre_check.specs.Reading.{AreSmall, after_line, after_words, by_due, is_comment, told}
 
 -- the line that a row is due as

@@ -1,8 +1,8 @@
 -- A certificate whose rows have the keys that are due, with ranks on all of its arcs or on none, has the rows that are due.
-use Rattle.std.proofs.Common.{◌≡◌, ℕ, ◌+◌, ◌*◌, ◌/◌, ◌%◌, ◌<◌, ◌≤◌, Bool, true, false, List, [], ◌∷◌, Option, Some, None, refl, sym, ◌∙◌, ap, subst, arith, inl, inr, length, map, is_some, unwrap_or, if◌then◌else◌, eq-eqb}
-use Rattle.std.specs.Prelude.{slice_get, filter, ◌==◌, ◌&&◌, not, All, get_or}
+use Rattle.std.proofs.Common.{◌≡◌, ℕ, ◌+◌, ◌*◌, ◌/◌, ◌%◌, ◌≤◌, Bool, true, false, List, Option, Some, None, refl, sym, ◌∙◌, ap, subst, arith, inl, inr, length, map, is_some, unwrap_or, if◌then◌else◌, eq-eqb}
+use Rattle.std.specs.Prelude.{slice_get, ◌==◌, ◌&&◌}
 use Rattle.std.specs.Option.{option_map_or}
-use Rattle.std.specs.List.{enumerate_from, flat_map, range_with_len, find}
+use Rattle.std.specs.List.{range_with_len}
 use Rattle.std.proofs.lemmas.Bool.{eqb-true, and_parts, and_from, cases_Bool, true≢false}
 use Rattle.std.proofs.lemmas.List.{map-id}
 use Rattle.pre_base.specs.declared.numbers.StreamId.{StreamId}
@@ -65,8 +65,8 @@ module _ (net : Network) (streams : Streams) (c : Certificate) (fits : Fits net 
       let found = found_one (λ (r : ArcRow). r.arc.0) (λ r. r.arc.0 == row.arc.0) c.arcs i row rise at (eq-eqb row.arc.0 row.arc.0 refl) (λ x h. eqb-true x.arc.0 row.arc.0 h) in
       let all = all_alike keys.ranked c.arcs keys.alike i row at in
       let rank : (if are_ranked c.arcs then Some (rank_in c.arcs row.arc.0) else None) ≡ row.rank =
-          rank_of (are_ranked c.arcs) row.rank (rank_in c.arcs row.arc.0) (keys.alike i row at ∙ sym all) (sym (ap (λ o. option_map_or (λ (r : ArcRow). unwrap_or r.rank 0) o 0) found))
-          in
+      rank_of (are_ranked c.arcs) row.rank (rank_in c.arcs row.arc.0) (keys.alike i row at ∙ sym all) (sym (ap (λ o. option_map_or (λ (r : ArcRow). unwrap_or r.rank 0) o 0) found))
+      in
       let largest : largest_in c.arcs row.arc.0 ≡ row.largest = ap (λ o. option_map_or (λ (r : ArcRow). r.largest) o 0) found in
       let made : Option ℕ → ℕ → ArcRow = λ r l. record { arc = row.arc; rank = r; largest = l } in
       ap (λ r. made r (largest_in c.arcs row.arc.0)) rank ∙ ap (made row.rank) largest)
@@ -78,14 +78,14 @@ module _ (net : Network) (streams : Streams) (c : Certificate) (fits : Fits net 
       let code : ℕ × ℕ → ℕ = λ p. p.0 * 8 + p.1 in
       let make : ℕ × ℕ → PortRow = λ p. record { arc = record { 0 = p.0 }; prio = p.1; block = u.block p.0 p.1; work = u.work p.0 p.1; rate = u.rate p.0 p.1; delay = u.delay p.0 p.1; size = u.size p.0 p.1 } in
       let codes : map (λ (r : PortRow). r.arc.0 * 8 + r.prio) c.ports ≡ ports_of net streams.rows =
-          sym (map_twice code port_key (λ (r : PortRow). r.arc.0 * 8 + r.prio) (λ x. refl) c.ports) ∙ ap (map code) keys.ports
-          ∙ map_twice code (λ (k : ℕ). (k / 8, k % 8)) (λ (k : ℕ). k) (λ k. omega arith) (ports_of net streams.rows) ∙ map-id (ports_of net streams.rows)
-          in
+      sym (map_twice code port_key (λ (r : PortRow). r.arc.0 * 8 + r.prio) (λ x. refl) c.ports) ∙ ap (map code) keys.ports
+      ∙ map_twice code (λ (k : ℕ). (k / 8, k % 8)) (λ (k : ℕ). k) (λ k. omega arith) (ports_of net streams.rows) ∙ map-id (ports_of net streams.rows)
+      in
       let rise = subst Rise (sym codes) (rise_filter (λ place. has_port streams.rows (place / 8) (place % 8)) (range_with_len 0 (length net.arcs * 8)) (rise_range 0 (length net.arcs * 8))) in
       from_keys port_key make c.ports
       (λ i row at.
       let found = found_one (λ (r : PortRow). r.arc.0 * 8 + r.prio) (λ r. r.arc.0 == row.arc.0 && r.prio == row.prio) c.ports i row rise at (and_from _ _ (eq-eqb row.arc.0 row.arc.0 refl) (eq-eqb row.prio row.prio refl))
-          (λ x h. let parts = and_parts _ _ h in let a = eqb-true x.arc.0 row.arc.0 parts.0 in let p = eqb-true x.prio row.prio parts.1 in omega (arith, a, p)) in
+      (λ x h. let parts = and_parts _ _ h in let a = eqb-true x.arc.0 row.arc.0 parts.0 in let p = eqb-true x.prio row.prio parts.1 in omega (arith, a, p)) in
       ap (λ (o : Option PortRow). record {
         arc = row.arc;
         prio = row.prio;
@@ -100,16 +100,16 @@ module _ (net : Network) (streams : Streams) (c : Certificate) (fits : Fits net 
   hops_said : c.hops ≡ map (hop_row (values_in c)) (hops_of streams.rows)
   hops_said =
       let short : (i : ℕ) (e : ℕ × Row) → slice_get (streams_of streams.rows) i ≡ Some e → length e.1.arcs ≤ 65536 =
-          λ i e at. let is = stream_due streams.rows i e at in let most = short_route net streams fits e.1 (contains_at streams.rows e.0 e.1 is.row) in omega (arith, most)
-          in
+      λ i e at. let is = stream_due streams.rows i e at in let most = short_route net streams fits e.1 (contains_at streams.rows e.0 e.1 is.row) in omega (arith, most)
+      in
       let codes : map (λ (r : HopRow). r.stream.0 * 65536 + r.hop) c.hops ≡ map hop_code (hops_of streams.rows) =
-          sym (map_twice hop_code hop_key (λ (r : HopRow). r.stream.0 * 65536 + r.hop) (λ x. refl) c.hops) ∙ ap (map hop_code) keys.hops
-          in
+      sym (map_twice hop_code hop_key (λ (r : HopRow). r.stream.0 * 65536 + r.hop) (λ x. refl) c.hops) ∙ ap (map hop_code) keys.hops
+      in
       let rise = subst Rise (sym codes) (rise_hops (λ (r : Row). length r.arcs) (streams_of streams.rows) (rise_numbered is_stream 0 streams.rows) short) in
       from_keys hop_key (hop_row (values_in c)) c.hops
       (λ i row at.
       let found = found_one (λ (r : HopRow). r.stream.0 * 65536 + r.hop) (λ r. r.stream.0 == row.stream.0 && r.hop == row.hop) c.hops i row rise at (and_from _ _ (eq-eqb row.stream.0 row.stream.0 refl) (eq-eqb row.hop row.hop refl))
-          (λ x h. let parts = and_parts _ _ h in let s = eqb-true x.stream.0 row.stream.0 parts.0 in let p = eqb-true x.hop row.hop parts.1 in omega (arith, s, p)) in
+      (λ x h. let parts = and_parts _ _ h in let s = eqb-true x.stream.0 row.stream.0 parts.0 in let p = eqb-true x.hop row.hop parts.1 in omega (arith, s, p)) in
       ap (λ (o : Option HopRow). record { stream = row.stream; hop = row.hop; burst = option_map_or (λ (r : HopRow). r.burst) o 0 }) found)
       ∙ ap (map (hop_row (values_in c))) keys.hops
 

@@ -1,8 +1,8 @@
 -- What was read so far has the keys of the lines that were due so far.
-use Rattle.std.proofs.Common.{◌≡◌, ℕ, zero, suc, ◌+◌, ◌/◌, ◌%◌, ◌<◌, ◌≤◌, Bool, true, false, List, [], ◌∷◌, ◌++◌, Option, Some, None, Result, Ok, Err, refl, sym, ◌∙◌, ap, subst, arith, inl, inr, length, map, take, is_some, if◌then◌else◌}
+use Rattle.std.proofs.Common.{◌≡◌, ℕ, zero, suc, ◌+◌, ◌/◌, ◌%◌, Bool, true, false, List, [], ◌∷◌, ◌++◌, Option, Some, None, Result, Ok, Err, refl, sym, ◌∙◌, ap, subst, arith, inl, inr, length, map, take, if◌then◌else◌}
 use Rattle.std.specs.Prelude.{slice_get, ◌==◌, not, IfOk}
-use Rattle.std.specs.List.{flat_map, enumerate_from}
-use Rattle.std.proofs.lemmas.Bool.{eqb-true, true≢false}
+use Rattle.std.specs.List.{flat_map}
+use Rattle.std.proofs.lemmas.Bool.{eqb-true}
 use Rattle.std.proofs.Math.Seq.{take-length}
 use Rattle.std.proofs.lemmas.List.{map-append, map-id, append-nil}
 use Rattle.std.proofs.lemmas.List.Concat.{flat_map-append}
@@ -13,8 +13,6 @@ use Rattle.pre_streams.specs.declared.rows.Row.{Row}
 use Rattle.pre_streams.specs.declared.rows.Streams.{Streams}
 use Rattle.pre_streams.specs.Fits.{Fits}
 use Rattle.pre_bound.specs.declared.rows.ArcRow.{ArcRow}
-use Rattle.pre_bound.specs.declared.rows.PortRow.{PortRow}
-use Rattle.pre_bound.specs.declared.rows.HopRow.{HopRow}
 use Rattle.pre_bound.specs.declared.certificate.Certificate.{Certificate}
 use Rattle.pre_bound.specs.Places.{arcs_of, ports_of, streams_of, hops_of}
 use Rattle.pre_check.specs.declared.due.Due.{Due}

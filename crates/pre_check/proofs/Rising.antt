@@ -1,5 +1,5 @@
 -- Lists of numbers that rise, and look-ups by keys whose numbers rise.
-use Rattle.std.proofs.Common.{◌≡◌, ◌⊎◌, ℕ, zero, suc, ◌+◌, ◌*◌, ◌/◌, ◌%◌, ◌<◌, ◌≤◌, Bool, true, false, cond, List, [], ◌∷◌, ◌++◌, Some, None, refl, sym, ◌∙◌, ap, subst, arith, inl, inr, length, map}
+use Rattle.std.proofs.Common.{◌≡◌, ℕ, zero, suc, ◌+◌, ◌*◌, ◌<◌, ◌≤◌, Bool, true, cond, List, [], ◌∷◌, ◌++◌, Some, refl, sym, ◌∙◌, ap, subst, arith, inl, inr, map}
 use Rattle.std.specs.Prelude.{slice_get, filter}
 use Rattle.std.specs.List.{enumerate_from, flat_map, range_with_len, find}
 use Rattle.std.proofs.lemmas.Bool.{cases_Bool}
@@ -37,13 +37,13 @@ rise_numbered {X} p n (x ∷ xs) =
     let first : ℕ × X = (n, x) in
     let rest = rise_numbered p (n + 1) xs in
     let above : AllAbove n (map (λ (e : ℕ × X). e.0) kept) =
-        λ i y e.
-        let made = from_map (λ (z : ℕ × X). z.0) kept i y e in
-        let at = (from_filter (λ (z : ℕ × X). p z.1) (enumerate_from (n + 1) xs) i made.0 made.1).1 in
-        let number = (from_enumerate (n + 1) xs at.0 made.0 at.1).1 in
-        let same = made.2 in
-        omega (arith, number, same)
-        in
+    λ i y e.
+    let made = from_map (λ (z : ℕ × X). z.0) kept i y e in
+    let at = (from_filter (λ (z : ℕ × X). p z.1) (enumerate_from (n + 1) xs) i made.0 made.1).1 in
+    let number = (from_enumerate (n + 1) xs at.0 made.0 at.1).1 in
+    let same = made.2 in
+    omega (arith, number, same)
+    in
     elim (cases_Bool (p x)) [
       | inl passes ↦ subst (λ b. Rise (map (λ (e : ℕ × X). e.0) (cond b (first ∷ kept) kept))) (sym passes) (above, rest)
       | inr fails ↦ subst (λ b. Rise (map (λ (e : ℕ × X). e.0) (cond b (first ∷ kept) kept))) (sym fails) rest

@@ -1,14 +1,10 @@
 -- What a line of a certificate says, by the version read and the line that is due.
 use Rattle.std.specs.Prelude.{ℕ, Bool, ◌==◌, ◌&&◌, true, false, List, [], ◌∷◌, codes, Option, Some, None, Result, Ok, Err, nat_le, if◌then◌else◌, unwrap_or}
 use Rattle.std.specs.Str.{bytes_eq}
-use Rattle.pre_base.specs.declared.numbers.StreamId.{StreamId}
 use Rattle.pre_text.specs.Words.{number_of}
 use Rattle.pre_topo.specs.declared.network.Network.{Network}
 use Rattle.pre_streams.specs.declared.rows.Row.{Row}
 use Rattle.pre_streams.specs.declared.rows.Streams.{Streams}
-use Rattle.pre_bound.specs.declared.rows.ArcRow.{ArcRow}
-use Rattle.pre_bound.specs.declared.rows.PortRow.{PortRow}
-use Rattle.pre_bound.specs.declared.rows.HopRow.{HopRow}
 use Rattle.pre_bound.specs.Limits.{limit}
 use Rattle.pre_bound.specs.Uses.{has_flow}
 use Rattle.pre_check.specs.declared.due.Due.{Due}

@@ -117,11 +117,7 @@ fn starts_comment(word: &[u8]) -> bool
 }
 
 /// Takes up what the line says, or answers its fault.
-fn take_up(
-    draft: &mut Draft,
-    line: u64,
-    said: Result<Said, u8>,
-) -> Result<(), CertificateFault>
+fn take_up(draft: &mut Draft, line: u64, said: Result<Said, u8>) -> Result<(), CertificateFault>
     requires { draft.old.place + 1 < 2 ^ 64 }
     ensures exact { LineReadsAs result (seen draft.new) (told line (seen draft.old) said) }
 {

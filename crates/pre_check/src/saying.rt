@@ -79,14 +79,7 @@ fn three_words<'a>(words: &mut LineWords<'a>) -> Option<(&'a [u8], &'a [u8], &'a
     }
 }
 
-type Six<'a> = (
-    &'a [u8],
-    &'a [u8],
-    &'a [u8],
-    &'a [u8],
-    &'a [u8],
-    &'a [u8],
-);
+type Six<'a> = (&'a [u8], &'a [u8], &'a [u8], &'a [u8], &'a [u8], &'a [u8]);
 
 fn six_words<'a>(words: &mut LineWords<'a>) -> Option<Six<'a>>
     ensures { option_map (λ w. (w.0.now, w.1.now, w.2.now, w.3.now, w.4.now, w.5.now)) result ≡ six words.old }
@@ -161,13 +154,7 @@ fn old_largest(rows: &[Row], arc: ArcId) -> u64
 }
 
 /// An arc's row of version 1, where it is due.
-fn old_arc_of(
-    net: &Network,
-    rows: &[Row],
-    due: &Due,
-    name: &[u8],
-    rank: u64,
-) -> Result<Said, u8>
+fn old_arc_of(net: &Network, rows: &[Row], due: &Due, name: &[u8], rank: u64) -> Result<Said, u8>
     ensures { result ≡ old_arc_of net.now rows.now due.now name.now rank }
 {
     let arc = arc_due(net, due, name).ok_or(ROW)?;
@@ -256,12 +243,7 @@ fn port_of(
     }
 }
 
-fn port_numbers(
-    net: &Network,
-    due: &Due,
-    name: &[u8],
-    words: &mut LineWords,
-) -> Result<Said, u8>
+fn port_numbers(net: &Network, due: &Due, name: &[u8], words: &mut LineWords) -> Result<Said, u8>
     ensures { result ≡ port_numbers net.now due.now name.now words.old }
 {
     let (prio, block, work, rate, delay, size) = six_words(words).ok_or(WORD)?;
