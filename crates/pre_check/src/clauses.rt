@@ -2,7 +2,8 @@ ghost use Rattle.std.specs.Prelude.{◌≡◌, ℕ, ◌+◌, ◌*◌, ◌<◌, �
 ghost use Rattle.std.specs.Option.{option_map};
 ghost use Rattle.pre_bound.specs.Along.{route_ticks};
 ghost use Rattle.pre_check.specs.Said.{delay_in, are_ranked};
-ghost use Rattle.pre_check.specs.Tests.{steps_at, rank_rises, load_fits, burst_begins, lower_fit, block_covers, bursts_in, work_covers, delay_covers, growth_covers, size_covers, ring_fits, bound_covers, largest_covers};
+ghost use Rattle.pre_check.specs.Tests.{steps_at, rank_rises, load_fits, burst_begins, lower_fit, block_covers, bursts_in};
+ghost use Rattle.pre_check.specs.Tests.{work_covers, delay_covers, growth_covers, size_covers, ring_fits, bound_covers, largest_covers};
 
 use crate::said::{burst_in, delay_in, largest_in, rank_in};
 use crate::uses::{

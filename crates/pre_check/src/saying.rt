@@ -1,7 +1,8 @@
 ghost use Rattle.std.specs.Prelude.{◌≡◌, ℕ, ◌≤◌, Option, Some, None, IfOk};
 ghost use Rattle.std.specs.Option.{option_map};
 ghost use Rattle.std.specs.Str.{bytes_eq};
-ghost use Rattle.pre_check.specs.Saying.{arc_of, arc_said, bound_of, bound_said, end_said, first_said, hop_of, hop_said, is_small, no_words, old_arc, old_arc_of, old_largest, one, port_numbers, port_of, port_said, ranked_arc, said_by, six, split, three, two, unranked_arc, version_of};
+ghost use Rattle.pre_check.specs.Saying.{arc_of, arc_said, bound_of, bound_said, end_said, first_said, hop_of, hop_said, is_small, no_words, old_arc};
+ghost use Rattle.pre_check.specs.Saying.{old_arc_of, old_largest, one, port_numbers, port_of, port_said, ranked_arc, said_by, six, split, three, two, unranked_arc, version_of};
 
 use crate::due::{Due, arc_due, bound_due, hop_due, is_end, is_first, port_due};
 use crate::uses::has_flow;
