@@ -1,8 +1,8 @@
 -- A line that is read says a row that is due, with no number above the limit.
-use Rattle.std.proofs.Common.{◌≡◌, ℕ, ◌≤◌, Bool, true, false, List, [], ◌∷◌, Option, Some, None, Result, Ok, Err, refl, sym, ◌∙◌, ap, subst, arith, is_some, if◌then◌else◌, unwrap_or}
+use Rattle.std.proofs.Common.{◌≡◌, ℕ, ◌≤◌, Bool, true, false, List, [], ◌∷◌, Option, Some, None, Result, Ok, Err, refl, sym, ◌∙◌, ap, subst, arith, is_some, if◌then◌else◌, unwrap_or, eq-eqb}
 use Rattle.std.specs.Prelude.{slice_get, ◌==◌, ◌&&◌, not, codes}
 use Rattle.std.specs.Str.{bytes_eq}
-use Rattle.std.proofs.lemmas.Bool.{eqb-true, leb-true, and_parts}
+use Rattle.std.proofs.lemmas.Bool.{eqb-true, leb-true, and_parts, true≢false}
 use Rattle.std.proofs.lemmas.List.Elements.{All-push, All-nil}
 use Rattle.pre_text.specs.Words.{number_of}
 use Rattle.pre_text.specs.Lines.{words_of}
@@ -37,16 +37,16 @@ abbrev pub HasVersion : ℕ → ArcRow → Type 0
 HasVersion version row = is_some row.rank ≡ not (version == 3)
 
 -- the row has no number above the limit, and a rank by the version
-abbrev pub IsSaid : ℕ → Said → Type 0
-IsSaid version (said.First other) = Unit {0}
-IsSaid version (said.Arc row) = ArcIsWithin row × HasVersion version row
-IsSaid version (said.Port row) = PortIsWithin row
-IsSaid version (said.Hop row) = row.burst ≤ limit
-IsSaid version (said.Bound stream bound) = bound ≤ limit
-IsSaid version said.End = Unit {0}
+abbrev pub IsSaid : List Row → ℕ → Said → Type 0
+IsSaid rows version (said.First other) = Unit {0}
+IsSaid rows version (said.Arc row) = ArcIsWithin row × HasVersion version row × (version ≡ 1 → row.largest ≡ old_largest rows row.arc.0)
+IsSaid rows version (said.Port row) = PortIsWithin row
+IsSaid rows version (said.Hop row) = row.burst ≤ limit
+IsSaid rows version (said.Bound stream bound) = bound ≤ limit
+IsSaid rows version said.End = Unit {0}
 
-pub record SaidFits (version : ℕ) (d : Due) (s : Said) : Type 0 where
-  pub is : IsSaid version s
+pub record SaidFits (rows : List Row) (version : ℕ) (d : Due) (s : Said) : Type 0 where
+  pub is : IsSaid rows version s
   pub due_is : d ≡ due_of s
 
 given-Ok : {A B : Type 0} (o : Option A) (rule : ℕ) (next : A → Result B ℕ) (s : B) → given o rule next ≡ Ok s → (x : A) × (o ≡ Some x) × (next x ≡ Ok s)
@@ -126,21 +126,21 @@ bound_is streams due.End name s e = absurd (cc)
 
 -- what is said
 
-first_fits : (version : ℕ) (d : Due) (words : List (List ℕ)) (s : Said) → first_said d words ≡ Ok s → SaidFits version d s
-first_fits version d words s e =
+first_fits : (rows : List Row) (version : ℕ) (d : Due) (words : List (List ℕ)) (s : Said) → first_said d words ≡ Ok s → SaidFits rows version d s
+first_fits rows version d words s e =
     let w = given-Ok (one words) word_rule _ s e in
     let v = given-Ok (version_of w.0) word_rule _ s w.2 in
     let k = kept-Ok (is_first d) row_rule _ s v.2 in
     let is : said.First v.0 ≡ s = cc (k.1) in
-    subst (SaidFits version d) is (record { is = tt; due_is = first_is d k.0 })
+    subst (SaidFits rows version d) is (record { is = tt; due_is = first_is d k.0 })
 
-arc_fits : (net : Network) (version : ℕ) (d : Due) (name : List ℕ) (rank : Option ℕ) (largest : ℕ) → is_some rank ≡ not (version == 3) → (s : Said) → arc_of net d name rank largest ≡ Ok s → SaidFits version d s
-arc_fits net version d name rank largest has s e =
+arc_fits : (net : Network) (rows : List Row) (version : ℕ) (d : Due) (name : List ℕ) (rank : Option ℕ) (largest : ℕ) → is_some rank ≡ not (version == 3) → (version ≡ 1 → ⊥) → (s : Said) → arc_of net d name rank largest ≡ Ok s → SaidFits rows version d s
+arc_fits net rows version d name rank largest has newer s e =
     let a = given-Ok (arc_due net d name) row_rule _ s e in
     let k = kept-Ok (is_small (unwrap_or rank 0) && is_small largest) large_rule _ s a.2 in
     let parts = and_parts _ _ k.0 in
     let is : said.Arc (record { arc = record { 0 = a.0 }; rank = rank; largest = largest }) ≡ s = cc (k.1) in
-    subst (SaidFits version d) is (record { is = (record { rank = leb-true _ _ parts.0; largest = leb-true _ _ parts.1 }, has); due_is = arc_is net d name a.0 a.1 })
+    subst (SaidFits rows version d) is (record { is = (record { rank = leb-true _ _ parts.0; largest = leb-true _ _ parts.1 }, has, λ q. absurd (newer q)); due_is = arc_is net d name a.0 a.1 })
 
 small_largest : (rows : List Row) (arc : ℕ) → old_largest rows arc ≤ limit
 small_largest rows arc = both (has_flow rows arc)
@@ -149,42 +149,45 @@ small_largest rows arc = both (has_flow rows arc)
     both true = omega arith
     both false = omega arith
 
-old_arc_fits : (net : Network) (rows : List Row) (version : ℕ) (d : Due) (name : List ℕ) (rank : ℕ) → true ≡ not (version == 3) → (s : Said) → old_arc_of net rows d name rank ≡ Ok s → SaidFits version d s
+old_arc_fits : (net : Network) (rows : List Row) (version : ℕ) (d : Due) (name : List ℕ) (rank : ℕ) → true ≡ not (version == 3) → (s : Said) → old_arc_of net rows d name rank ≡ Ok s → SaidFits rows version d s
 old_arc_fits net rows version d name rank has s e =
     let a = given-Ok (arc_due net d name) row_rule _ s e in
     let k = kept-Ok (is_small rank) large_rule _ s a.2 in
     let is : said.Arc (record { arc = record { 0 = a.0 }; rank = Some rank; largest = old_largest rows a.0 }) ≡ s = cc (k.1) in
-    subst (SaidFits version d) is (record { is = (record { rank = leb-true _ _ k.0; largest = small_largest rows a.0 }, has); due_is = arc_is net d name a.0 a.1 })
+    subst (SaidFits rows version d) is (record { is = (record { rank = leb-true _ _ k.0; largest = small_largest rows a.0 }, has, λ q. refl); due_is = arc_is net d name a.0 a.1 })
 
-ranked_arc_fits : (net : Network) (version : ℕ) (d : Due) (words : List (List ℕ)) → true ≡ not (version == 3) → (s : Said) → ranked_arc net d words ≡ Ok s → SaidFits version d s
-ranked_arc_fits net version d words has s e =
+ranked_arc_fits : (net : Network) (rows : List Row) (version : ℕ) (d : Due) (words : List (List ℕ)) → true ≡ not (version == 3) → (version ≡ 1 → ⊥) → (s : Said) → ranked_arc net d words ≡ Ok s → SaidFits rows version d s
+ranked_arc_fits net rows version d words has newer s e =
     let w = given-Ok (three words) word_rule _ s e in
     let rank = given-Ok (number_of w.0.1) number_rule _ s w.2 in
     let largest = given-Ok (number_of w.0.2) number_rule _ s rank.2 in
-    arc_fits net version d w.0.0 (Some rank.0) largest.0 has s largest.2
+    arc_fits net rows version d w.0.0 (Some rank.0) largest.0 has newer s largest.2
 
-old_line_fits : (net : Network) (rows : List Row) (version : ℕ) (d : Due) (words : List (List ℕ)) → true ≡ not (version == 3) → (s : Said) → old_arc net rows d words ≡ Ok s → SaidFits version d s
+old_line_fits : (net : Network) (rows : List Row) (version : ℕ) (d : Due) (words : List (List ℕ)) → true ≡ not (version == 3) → (s : Said) → old_arc net rows d words ≡ Ok s → SaidFits rows version d s
 old_line_fits net rows version d words has s e =
     let w = given-Ok (two words) word_rule _ s e in
     let rank = given-Ok (number_of w.0.1) number_rule _ s w.2 in
     old_arc_fits net rows version d w.0.0 rank.0 has s rank.2
 
-unranked_arc_fits : (net : Network) (version : ℕ) (d : Due) (words : List (List ℕ)) → false ≡ not (version == 3) → (s : Said) → unranked_arc net d words ≡ Ok s → SaidFits version d s
-unranked_arc_fits net version d words has s e =
+unranked_arc_fits : (net : Network) (rows : List Row) (version : ℕ) (d : Due) (words : List (List ℕ)) → false ≡ not (version == 3) → (version ≡ 1 → ⊥) → (s : Said) → unranked_arc net d words ≡ Ok s → SaidFits rows version d s
+unranked_arc_fits net rows version d words has newer s e =
     let w = given-Ok (two words) word_rule _ s e in
     let largest = given-Ok (number_of w.0.1) number_rule _ s w.2 in
-    arc_fits net version d w.0.0 None largest.0 has s largest.2
+    arc_fits net rows version d w.0.0 None largest.0 has newer s largest.2
 
-arc_said_fits : (net : Network) (rows : List Row) (version : ℕ) (d : Due) (words : List (List ℕ)) (s : Said) → arc_said net rows version d words ≡ Ok s → SaidFits version d s
+isnt : (version : ℕ) → (version == 1) ≡ false → version ≡ 1 → ⊥
+isnt version other q = true≢false (sym (eq-eqb version 1 q) ∙ other)
+
+arc_said_fits : (net : Network) (rows : List Row) (version : ℕ) (d : Due) (words : List (List ℕ)) (s : Said) → arc_said net rows version d words ≡ Ok s → SaidFits rows version d s
 arc_said_fits net rows version d words =
-    one_of (SaidFits version d) (version == 1) _ _
+    one_of (SaidFits rows version d) (version == 1) _ _
     (λ first. old_line_fits net rows version d words (sym (ap (λ n. not (n == 3)) (eqb-true version 1 first))))
-    (λ not_first. one_of (SaidFits version d) (version == 3) _ _
-    (λ third. unranked_arc_fits net version d words (sym (ap not third)))
-    (λ other. ranked_arc_fits net version d words (sym (ap not other))))
+    (λ not_first. one_of (SaidFits rows version d) (version == 3) _ _
+    (λ third. unranked_arc_fits net rows version d words (sym (ap not third)) (isnt version not_first))
+    (λ other. ranked_arc_fits net rows version d words (sym (ap not other)) (isnt version not_first)))
 
-port_of_fits : (net : Network) (version : ℕ) (d : Due) (name : List ℕ) (prio block work rate delay size : ℕ) (s : Said) → port_of net d name prio block work rate delay size ≡ Ok s → SaidFits version d s
-port_of_fits net version d name prio block work rate delay size s e =
+port_of_fits : (net : Network) (rows : List Row) (version : ℕ) (d : Due) (name : List ℕ) (prio block work rate delay size : ℕ) (s : Said) → port_of net d name prio block work rate delay size ≡ Ok s → SaidFits rows version d s
+port_of_fits net rows version d name prio block work rate delay size s e =
     let p = given-Ok (port_due net d name prio) row_rule _ s e in
     let k = kept-Ok (is_small block && (is_small work && (is_small rate && (is_small delay && is_small size)))) large_rule _ s p.2 in
     let first = and_parts _ _ k.0 in
@@ -192,14 +195,14 @@ port_of_fits net version d name prio block work rate delay size s e =
     let third = and_parts _ _ second.1 in
     let fourth = and_parts _ _ third.1 in
     let is : said.Port (record { arc = record { 0 = p.0.0 }; prio = p.0.1; block = block; work = work; rate = rate; delay = delay; size = size }) ≡ s = cc (k.1) in
-    subst (SaidFits version d) is
+    subst (SaidFits rows version d) is
     (record {
       is = record { block = leb-true _ _ first.0; work = leb-true _ _ second.0; rate = leb-true _ _ third.0; delay = leb-true _ _ fourth.0; size = leb-true _ _ fourth.1 };
       due_is = port_is net d name prio p.0 p.1;
     })
 
-port_fits : (net : Network) (version : ℕ) (d : Due) (words : List (List ℕ)) (s : Said) → port_said net d words ≡ Ok s → SaidFits version d s
-port_fits net version d words s e =
+port_fits : (net : Network) (rows : List Row) (version : ℕ) (d : Due) (words : List (List ℕ)) (s : Said) → port_said net d words ≡ Ok s → SaidFits rows version d s
+port_fits net rows version d words s e =
     let n = given-Ok (split words) word_rule _ s e in
     let w = given-Ok (six n.0.1) word_rule _ s n.2 in
     let prio = given-Ok (number_of w.0.0) number_rule _ s w.2 in
@@ -208,9 +211,9 @@ port_fits net version d words s e =
     let rate = given-Ok (number_of w.0.3) number_rule _ s work.2 in
     let delay = given-Ok (number_of w.0.4) number_rule _ s rate.2 in
     let size = given-Ok (number_of w.0.5) number_rule _ s delay.2 in
-    port_of_fits net version d n.0.0 prio.0 block.0 work.0 rate.0 delay.0 size.0 s size.2
+    port_of_fits net rows version d n.0.0 prio.0 block.0 work.0 rate.0 delay.0 size.0 s size.2
 
-hop_fits : (streams : Streams) (version : ℕ) (d : Due) (words : List (List ℕ)) (s : Said) → hop_said streams d words ≡ Ok s → SaidFits version d s
+hop_fits : (streams : Streams) (version : ℕ) (d : Due) (words : List (List ℕ)) (s : Said) → hop_said streams d words ≡ Ok s → SaidFits streams.rows version d s
 hop_fits streams version d words s e =
     let w = given-Ok (three words) word_rule _ s e in
     let hop = given-Ok (number_of w.0.1) number_rule _ s w.2 in
@@ -218,53 +221,53 @@ hop_fits streams version d words s e =
     let stream = given-Ok (hop_due streams d w.0.0 hop.0) row_rule _ s burst.2 in
     let k = kept-Ok (is_small burst.0) large_rule _ s stream.2 in
     let is : said.Hop (record { stream = record { 0 = stream.0 }; hop = hop.0; burst = burst.0 }) ≡ s = cc (k.1) in
-    subst (SaidFits version d) is (record { is = leb-true _ _ k.0; due_is = hop_is streams d w.0.0 hop.0 stream.0 stream.1 })
+    subst (SaidFits streams.rows version d) is (record { is = leb-true _ _ k.0; due_is = hop_is streams d w.0.0 hop.0 stream.0 stream.1 })
 
-bound_fits : (streams : Streams) (version : ℕ) (d : Due) (words : List (List ℕ)) (s : Said) → bound_said streams d words ≡ Ok s → SaidFits version d s
+bound_fits : (streams : Streams) (version : ℕ) (d : Due) (words : List (List ℕ)) (s : Said) → bound_said streams d words ≡ Ok s → SaidFits streams.rows version d s
 bound_fits streams version d words s e =
     let w = given-Ok (two words) word_rule _ s e in
     let bound = given-Ok (number_of w.0.1) number_rule _ s w.2 in
     let stream = given-Ok (bound_due streams d w.0.0) row_rule _ s bound.2 in
     let k = kept-Ok (is_small bound.0) large_rule _ s stream.2 in
     let is : said.Bound (record { 0 = stream.0 }) bound.0 ≡ s = cc (k.1) in
-    subst (SaidFits version d) is (record { is = leb-true _ _ k.0; due_is = bound_is streams d w.0.0 stream.0 stream.1 })
+    subst (SaidFits streams.rows version d) is (record { is = leb-true _ _ k.0; due_is = bound_is streams d w.0.0 stream.0 stream.1 })
 
-end_fits : (version : ℕ) (d : Due) (words : List (List ℕ)) (s : Said) → end_said d words ≡ Ok s → SaidFits version d s
-end_fits version d words s e =
+end_fits : (rows : List Row) (version : ℕ) (d : Due) (words : List (List ℕ)) (s : Said) → end_said d words ≡ Ok s → SaidFits rows version d s
+end_fits rows version d words s e =
     let none = kept-Ok (no_words words) word_rule _ s e in
     let k = kept-Ok (is_end d) row_rule _ s none.1 in
     let is : said.End ≡ s = cc (k.1) in
-    subst (SaidFits version d) is (record { is = tt; due_is = end_is d k.0 })
+    subst (SaidFits rows version d) is (record { is = tt; due_is = end_is d k.0 })
 
-pub said_by_fits : (net : Network) (streams : Streams) (version : ℕ) (d : Due) (first : List ℕ) (words : List (List ℕ)) (s : Said) → said_by net streams version d first words ≡ Ok s → SaidFits version d s
+pub said_by_fits : (net : Network) (streams : Streams) (version : ℕ) (d : Due) (first : List ℕ) (words : List (List ℕ)) (s : Said) → said_by net streams version d first words ≡ Ok s → SaidFits streams.rows version d s
 said_by_fits net streams version d first words =
-    one_of (SaidFits version d) (bytes_eq first (codes "certificate")) _ _ (λ _. first_fits version d words)
-    (λ _. one_of (SaidFits version d) (bytes_eq first (codes "arc")) _ _ (λ _. arc_said_fits net streams.rows version d words)
-    (λ _. one_of (SaidFits version d) (bytes_eq first (codes "port")) _ _ (λ _. port_fits net version d words)
-    (λ _. one_of (SaidFits version d) (bytes_eq first (codes "hop")) _ _ (λ _. hop_fits streams version d words)
-    (λ _. one_of (SaidFits version d) (bytes_eq first (codes "bound")) _ _ (λ _. bound_fits streams version d words)
-    (λ _. one_of (SaidFits version d) (bytes_eq first (codes "end")) _ _ (λ _. end_fits version d words)
-    (λ _. refused (SaidFits version d) word_rule))))))
+    one_of (SaidFits streams.rows version d) (bytes_eq first (codes "certificate")) _ _ (λ _. first_fits streams.rows version d words)
+    (λ _. one_of (SaidFits streams.rows version d) (bytes_eq first (codes "arc")) _ _ (λ _. arc_said_fits net streams.rows version d words)
+    (λ _. one_of (SaidFits streams.rows version d) (bytes_eq first (codes "port")) _ _ (λ _. port_fits net streams.rows version d words)
+    (λ _. one_of (SaidFits streams.rows version d) (bytes_eq first (codes "hop")) _ _ (λ _. hop_fits streams version d words)
+    (λ _. one_of (SaidFits streams.rows version d) (bytes_eq first (codes "bound")) _ _ (λ _. bound_fits streams version d words)
+    (λ _. one_of (SaidFits streams.rows version d) (bytes_eq first (codes "end")) _ _ (λ _. end_fits streams.rows version d words)
+    (λ _. refused (SaidFits streams.rows version d) word_rule))))))
 
 -- no number of what is said passes the limit
-pub more_small : (seen : Seen) (version : ℕ) (s : Said) → AreSmall seen → IsSaid version s → AreSmall (with_said seen s)
-more_small seen version (said.First other) small is = record { each_arc = small.each_arc; each_port = small.each_port; each_hop = small.each_hop; each_bound = small.each_bound }
-more_small seen version (said.Arc row) small is = record { each_arc = All-push ArcIsWithin seen.rows.arcs row small.each_arc is.0; each_port = small.each_port; each_hop = small.each_hop; each_bound = small.each_bound }
-more_small seen version (said.Port row) small is = record { each_arc = small.each_arc; each_port = All-push PortIsWithin seen.rows.ports row small.each_port is; each_hop = small.each_hop; each_bound = small.each_bound }
-more_small seen version (said.Hop row) small is = record { each_arc = small.each_arc; each_port = small.each_port; each_hop = All-push (λ r. r.burst ≤ limit) seen.rows.hops row small.each_hop is; each_bound = small.each_bound }
-more_small seen version (said.Bound stream bound) small is = record { each_arc = small.each_arc; each_port = small.each_port; each_hop = small.each_hop; each_bound = All-push (λ (r : StreamId × ℕ). r.1 ≤ limit) seen.rows.bounds (stream, bound) small.each_bound is }
-more_small seen version said.End small is = record { each_arc = small.each_arc; each_port = small.each_port; each_hop = small.each_hop; each_bound = small.each_bound }
+pub more_small : (rows : List Row) (seen : Seen) (version : ℕ) (s : Said) → AreSmall seen → IsSaid rows version s → AreSmall (with_said seen s)
+more_small rows seen version (said.First other) small is = record { each_arc = small.each_arc; each_port = small.each_port; each_hop = small.each_hop; each_bound = small.each_bound }
+more_small rows seen version (said.Arc row) small is = record { each_arc = All-push ArcIsWithin seen.rows.arcs row small.each_arc is.0; each_port = small.each_port; each_hop = small.each_hop; each_bound = small.each_bound }
+more_small rows seen version (said.Port row) small is = record { each_arc = small.each_arc; each_port = All-push PortIsWithin seen.rows.ports row small.each_port is; each_hop = small.each_hop; each_bound = small.each_bound }
+more_small rows seen version (said.Hop row) small is = record { each_arc = small.each_arc; each_port = small.each_port; each_hop = All-push (λ r. r.burst ≤ limit) seen.rows.hops row small.each_hop is; each_bound = small.each_bound }
+more_small rows seen version (said.Bound stream bound) small is = record { each_arc = small.each_arc; each_port = small.each_port; each_hop = small.each_hop; each_bound = All-push (λ (r : StreamId × ℕ). r.1 ≤ limit) seen.rows.bounds (stream, bound) small.each_bound is }
+more_small rows seen version said.End small is = record { each_arc = small.each_arc; each_port = small.each_port; each_hop = small.each_hop; each_bound = small.each_bound }
 
 pub nothing_small : AreSmall nothing_seen
 nothing_small = record { each_arc = All-nil ArcIsWithin; each_port = All-nil PortIsWithin; each_hop = All-nil (λ (r : HopRow). r.burst ≤ limit); each_bound = All-nil (λ (r : StreamId × ℕ). r.1 ≤ limit) }
 
-told_small : (line : ℕ) (seen now : Seen) (d : Due) (r : Result Said ℕ) → AreSmall seen → ((s : Said) → r ≡ Ok s → SaidFits seen.version d s) → told line seen r ≡ Ok now → AreSmall now
-told_small line seen now d (Ok s) small fits e = let is : with_said seen s ≡ now = cc in subst AreSmall is (more_small seen seen.version s small (fits s refl).is)
-told_small line seen now d (Err rule) small fits e = absurd cc
+told_small : (rows : List Row) (line : ℕ) (seen now : Seen) (d : Due) (r : Result Said ℕ) → AreSmall seen → ((s : Said) → r ≡ Ok s → SaidFits rows seen.version d s) → told line seen r ≡ Ok now → AreSmall now
+told_small rows line seen now d (Ok s) small fits e = let is : with_said seen s ≡ now = cc in subst AreSmall is (more_small rows seen seen.version s small (fits s refl).is)
+told_small rows line seen now d (Err rule) small fits e = absurd cc
 
 due_small : (net : Network) (streams : Streams) (seen now : Seen) (line : ℕ) (first : List ℕ) (words : List (List ℕ)) (o : Option Due) → AreSmall seen → by_due net streams seen line first words o ≡ Ok now → AreSmall now
 due_small net streams seen now line first words None small e = absurd cc
-due_small net streams seen now line first words (Some d) small e = told_small line seen now d (said_by net streams seen.version d first words) small (said_by_fits net streams seen.version d first words) e
+due_small net streams seen now line first words (Some d) small e = told_small streams.rows line seen now d (said_by net streams seen.version d first words) small (said_by_fits net streams seen.version d first words) e
 
 words_small : (net : Network) (streams : Streams) (due : List Due) (seen now : Seen) (line : ℕ) (words : List (List ℕ)) → AreSmall seen → after_words net streams due seen line words ≡ Ok now → AreSmall now
 words_small net streams due seen now line [] small e = let is : seen ≡ now = cc in subst AreSmall is small

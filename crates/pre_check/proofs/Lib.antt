@@ -14,3 +14,4 @@ pub mod Fitting
 pub mod Rising
 pub mod Keys
 pub mod Matching
+pub mod Migrating

@@ -92,7 +92,7 @@ record SeenFits (lines : List Due) (seen : Seen) : Type 0 where
   ranked : (i : ℕ) (row : ArcRow) → slice_get seen.rows.arcs i ≡ Some row → HasVersion seen.version row
 
 -- the version stands first alone
-abbrev FirstAlone : List Due → Type 0
+abbrev pub FirstAlone : List Due → Type 0
 FirstAlone lines = (k : ℕ) → slice_get lines k ≡ Some due.First → k ≡ 0
 
 none_mapped : {X Y : Type 0} (f : X → Y) (xs : List X) → map f xs ≡ [] → (i : ℕ) (x : X) → slice_get xs i ≡ Some x → ⊥
@@ -113,8 +113,8 @@ pushed_ranked version rows row h has i r e =
 nothing_fits : (lines : List Due) → SeenFits lines nothing_seen
 nothing_fits lines = record { arcs = refl; ports = refl; hops = refl; bounds = refl; ranked = λ i row e. absurd (cc) }
 
-more_fits : (lines : List Due) (seen : Seen) (d : Due) (s : Said) → FirstAlone lines → slice_get lines seen.place ≡ Some d → SaidFits seen.version d s → SeenFits lines seen → SeenFits lines (with_said seen s)
-more_fits lines seen d (said.First version) alone at says fits =
+more_fits : (rows : List Row) (lines : List Due) (seen : Seen) (d : Due) (s : Said) → FirstAlone lines → slice_get lines seen.place ≡ Some d → SaidFits rows seen.version d s → SeenFits lines seen → SeenFits lines (with_said seen s)
+more_fits rows lines seen d (said.First version) alone at says fits =
     let s = said.First version in
     let k = seen.place in
     let start : k ≡ 0 = alone k (at ∙ ap (λ z. Some z) says.due_is) in
@@ -125,7 +125,7 @@ more_fits lines seen d (said.First version) alone at says fits =
       bounds = same_keys bound_in lines k _ _ fits.bounds (picks bound_in lines k d s at says.due_is);
       ranked = λ i row e. absurd (none_mapped (λ (r : ArcRow). r.arc.0) seen.rows.arcs (fits.arcs ∙ ap (λ n. flat_map arc_in (take n lines)) start) i row e);
     }
-more_fits lines seen d (said.Arc row) alone at says fits =
+more_fits rows lines seen d (said.Arc row) alone at says fits =
     let s = said.Arc row in
     let k = seen.place in
     record {
@@ -135,7 +135,7 @@ more_fits lines seen d (said.Arc row) alone at says fits =
       bounds = same_keys bound_in lines k _ _ fits.bounds (picks bound_in lines k d s at says.due_is);
       ranked = λ i r e. pushed_ranked seen.version seen.rows.arcs row fits.ranked says.is.1 i r e;
     }
-more_fits lines seen d (said.Port row) alone at says fits =
+more_fits rows lines seen d (said.Port row) alone at says fits =
     let s = said.Port row in
     let k = seen.place in
     record {
@@ -145,7 +145,7 @@ more_fits lines seen d (said.Port row) alone at says fits =
       bounds = same_keys bound_in lines k _ _ fits.bounds (picks bound_in lines k d s at says.due_is);
       ranked = fits.ranked;
     }
-more_fits lines seen d (said.Hop row) alone at says fits =
+more_fits rows lines seen d (said.Hop row) alone at says fits =
     let s = said.Hop row in
     let k = seen.place in
     record {
@@ -155,7 +155,7 @@ more_fits lines seen d (said.Hop row) alone at says fits =
       bounds = same_keys bound_in lines k _ _ fits.bounds (picks bound_in lines k d s at says.due_is);
       ranked = fits.ranked;
     }
-more_fits lines seen d (said.Bound stream bound) alone at says fits =
+more_fits rows lines seen d (said.Bound stream bound) alone at says fits =
     let s = said.Bound stream bound in
     let k = seen.place in
     let row : StreamId × ℕ = (stream, bound) in
@@ -166,7 +166,7 @@ more_fits lines seen d (said.Bound stream bound) alone at says fits =
       bounds = more_keys (λ (r : StreamId × ℕ). r.0.0) seen.rows.bounds row _ _ fits.bounds (picks bound_in lines k d s at says.due_is);
       ranked = fits.ranked;
     }
-more_fits lines seen d said.End alone at says fits =
+more_fits rows lines seen d said.End alone at says fits =
     let s = said.End in
     let k = seen.place in
     record {
@@ -177,14 +177,14 @@ more_fits lines seen d said.End alone at says fits =
       ranked = fits.ranked;
     }
 
-told_fits : (lines : List Due) (line : ℕ) (seen now : Seen) (d : Due) (r : Result Said ℕ) → FirstAlone lines → slice_get lines seen.place ≡ Some d → ((s : Said) → r ≡ Ok s → SaidFits seen.version d s) → SeenFits lines seen → told line seen r ≡ Ok now → SeenFits lines now
-told_fits lines line seen now d (Ok s) alone at says fits e = let is : with_said seen s ≡ now = cc in subst (SeenFits lines) is (more_fits lines seen d s alone at (says s refl) fits)
-told_fits lines line seen now d (Err rule) alone at says fits e = absurd cc
+told_fits : (rows : List Row) (lines : List Due) (line : ℕ) (seen now : Seen) (d : Due) (r : Result Said ℕ) → FirstAlone lines → slice_get lines seen.place ≡ Some d → ((s : Said) → r ≡ Ok s → SaidFits rows seen.version d s) → SeenFits lines seen → told line seen r ≡ Ok now → SeenFits lines now
+told_fits rows lines line seen now d (Ok s) alone at says fits e = let is : with_said seen s ≡ now = cc in subst (SeenFits lines) is (more_fits rows lines seen d s alone at (says s refl) fits)
+told_fits rows lines line seen now d (Err rule) alone at says fits e = absurd cc
 
 due_fits : (net : Network) (streams : Streams) (lines : List Due) (seen now : Seen) (line : ℕ) (first : List ℕ) (words : List (List ℕ)) (o : Option Due) → FirstAlone lines → slice_get lines seen.place ≡ o → SeenFits lines seen → by_due net streams seen line first words o ≡ Ok now → SeenFits lines now
 due_fits net streams lines seen now line first words None alone at fits e = absurd cc
 due_fits net streams lines seen now line first words (Some d) alone at fits e =
-    told_fits lines line seen now d (said_by net streams seen.version d first words) alone at (said_by_fits net streams seen.version d first words) fits e
+    told_fits streams.rows lines line seen now d (said_by net streams seen.version d first words) alone at (said_by_fits net streams seen.version d first words) fits e
 
 words_fit : (net : Network) (streams : Streams) (lines : List Due) (seen now : Seen) (line : ℕ) (words : List (List ℕ)) → FirstAlone lines → SeenFits lines seen → after_words net streams lines seen line words ≡ Ok now → SeenFits lines now
 words_fit net streams lines seen now line [] alone fits e = let is : seen ≡ now = cc in subst (SeenFits lines) is fits
@@ -194,7 +194,7 @@ words_fit net streams lines seen now line (first ∷ words) alone fits e = comme
     commented true h = let is : seen ≡ now = cc in subst (SeenFits lines) is fits
     commented false h = due_fits net streams lines seen now line first words (slice_get lines seen.place) alone refl fits h
 
-then-Ok : (r : Result Seen (ℕ × ℕ)) (next : Seen → Result Seen (ℕ × ℕ)) (now : Seen) → then_after r next ≡ Ok now → (s : Seen) × (r ≡ Ok s) × (next s ≡ Ok now)
+pub then-Ok : (r : Result Seen (ℕ × ℕ)) (next : Seen → Result Seen (ℕ × ℕ)) (now : Seen) → then_after r next ≡ Ok now → (s : Seen) × (r ≡ Ok s) × (next s ≡ Ok now)
 then-Ok (Ok s) next now e = (s, refl, e)
 then-Ok (Err fault) next now e = absurd cc
 
@@ -281,7 +281,7 @@ no_last : (i : ℕ) → slice_get (due.End ∷ []) i ≡ Some due.First → ⊥
 no_last zero e = absurd (cc)
 no_last (suc i) e = absurd (cc)
 
-first_alone : (net : Network) (rows : List Row) → FirstAlone (due_lines net rows)
+pub first_alone : (net : Network) (rows : List Row) → FirstAlone (due_lines net rows)
 first_alone net rows zero e = refl
 first_alone net rows (suc k) e =
     absurd
@@ -295,14 +295,14 @@ first_alone net rows (suc k) e =
 abbrev end_by : Bool → ℕ → Rows → Result Rows (ℕ × ℕ)
 end_by b count rows = if b then Ok rows else Err (count + 1, end_rule)
 
-all_read : (lines : List Due) (count : ℕ) (seen : Seen) (rows : Rows) → until_end lines count seen ≡ Ok rows → (take seen.place lines ≡ lines) × (seen.rows ≡ rows)
+pub all_read : (lines : List Due) (count : ℕ) (seen : Seen) (rows : Rows) → until_end lines count seen ≡ Ok rows → (take seen.place lines ≡ lines) × (seen.rows ≡ rows)
 all_read lines count seen rows e = both (seen.place == length lines) refl e
   where
     both : (b : Bool) → (seen.place == length lines) ≡ b → end_by b count seen.rows ≡ Ok rows → (take seen.place lines ≡ lines) × (seen.rows ≡ rows)
     both true is h = (ap (λ n. take n lines) (eqb-true _ _ is) ∙ take-length lines, cc)
     both false is h = absurd (cc)
 
-ended-Ok : (lines : List Due) (count : ℕ) (r : Result Seen (ℕ × ℕ)) (rows : Rows) → ended lines count r ≡ Ok rows → (seen : Seen) × (r ≡ Ok seen) × (until_end lines count seen ≡ Ok rows)
+pub ended-Ok : (lines : List Due) (count : ℕ) (r : Result Seen (ℕ × ℕ)) (rows : Rows) → ended lines count r ≡ Ok rows → (seen : Seen) × (r ≡ Ok seen) × (until_end lines count seen ≡ Ok rows)
 ended-Ok lines count (Ok seen) rows e = (seen, refl, e)
 ended-Ok lines count (Err fault) rows e = absurd (cc)
 

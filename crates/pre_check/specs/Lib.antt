@@ -6,3 +6,4 @@ pub mod Due
 pub mod Saying
 pub mod Seen
 pub mod Reading
+pub mod Migration

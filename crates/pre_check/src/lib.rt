@@ -5,12 +5,14 @@ mod breaches;
 mod clauses;
 mod drafts;
 mod due;
+mod laws;
 mod reading;
 mod said;
 mod saying;
 mod uses;
 mod verdicts;
 
+pub use laws::migration_law;
 pub use reading::{CertificateFault, read_certificate};
 pub use verdicts::{Verdict, judge};
 
