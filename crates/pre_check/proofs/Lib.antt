@@ -1,0 +1,17 @@
+pub mod Listing
+pub mod Breaking
+pub mod Lists
+pub mod Agreeing
+pub mod Testing
+pub mod Stepping
+pub mod Finding
+pub mod Sizes
+pub mod Holding
+pub mod Judging
+pub mod Loops
+pub mod Dues
+pub mod Fitting
+pub mod Rising
+pub mod Keys
+pub mod Matching
+pub mod Migrating
