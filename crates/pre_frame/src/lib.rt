@@ -62,7 +62,7 @@ mod tests {
     // The check of sixty octets 00 is 08 89 12 04.
     #[test]
     fn finds_each_fault(rt: HostRuntime) {
-        let mut octets = [0; 1523];
+        let mut octets = [0; 2001];
         assert_eq!(rt; read_frame(&octets[..63]), Err(FrameFault::Short));
         assert_eq!(rt; read_frame(&octets), Err(FrameFault::Long));
         assert_eq!(rt; read_frame(&octets[..64]), Err(FrameFault::Check));

@@ -7,7 +7,7 @@ ghost use Rattle.pre_send.specs.Lendings.{LendsChoice};
 ghost use Rattle.pre_send.specs.Senders.{MayBegin};
 
 use super::*;
-use pre_base::{FrameNo, Prio, Tick};
+use pre_base::{FrameNo, GREATEST_FRAME, LEAST_FRAME, Prio, Tick};
 use pre_crc::{Running, fcs};
 use pre_mpacket::Kind;
 use pre_rings::{FrameRef, FrameStore};
