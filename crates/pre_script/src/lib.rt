@@ -13,7 +13,7 @@ pub use scripts::{Damage, Loss, Script, ScriptFault, SendLine, SetLine, Setting}
 #[cfg(test)]
 mod tests {
     use super::*;
-    use pre_base::{Send, StreamId, Tick};
+    use pre_base::{ArcId, Send, StreamId, Tick};
     use std::alloc::Global;
     use std::test::Fail;
 
@@ -50,13 +50,36 @@ mod tests {
     }
 
     #[test]
+    fn reads_losses_and_damages(rt: HostRuntime) -> Result<(), Fail> {
+        let text = b"send 7 y 64\nlose b>a 18446744073709551615\ndamage a>b 0 9 0aFf\nuntil 0";
+        let script = read_with_pair(rt.alloc(), text)?.ok().ok_or("script")?;
+        assert_eq!(rt; script.sends.len(), 1);
+        let loss = Loss {
+            arc: ArcId(1),
+            ordinal: 18446744073709551615,
+        };
+        assert_eq!(rt; script.losses.as_slice(), [loss].as_slice());
+        let damage = script.damages.as_slice().first().ok_or("damage")?;
+        assert_eq!(rt; damage.arc, ArcId(0));
+        assert_eq!(rt; damage.ordinal, 0);
+        assert_eq!(rt; damage.offset, 9);
+        assert_eq!(rt; damage.octets.as_slice(), [10, 255].as_slice());
+        Ok(())
+    }
+
+    #[test]
     fn finds_the_first_fault(rt: HostRuntime) -> Result<(), Fail> {
         let alloc = rt.alloc();
-        assert_eq!(rt; fault_of(alloc, b"lose a>b 0")?, fault(1, 1));
+        assert_eq!(rt; fault_of(alloc, b"lose a>b")?, fault(1, 1));
+        assert_eq!(rt; fault_of(alloc, b"damage a>b 0 0 0 00")?, fault(1, 1));
         assert_eq!(rt; fault_of(alloc, b"send 0 x 64 7")?, fault(1, 1));
         assert_eq!(rt; fault_of(alloc, b"\nsend 01 x 64")?, fault(2, 2));
+        assert_eq!(rt; fault_of(alloc, b"lose a>c 00")?, fault(1, 2));
+        assert_eq!(rt; fault_of(alloc, b"damage a>c 0 0 0")?, fault(1, 2));
+        let long = b"damage a>b 0 0 000102030405060708090a0b0c0d0e0f101112131415161718191a1b1c1d1e1f20";
+        assert_eq!(rt; fault_of(alloc, long)?, fault(1, 2));
+        assert_eq!(rt; fault_of(alloc, b"damage a>c 0 0 00")?, fault(1, 3));
         assert_eq!(rt; fault_of(alloc, b"send 0 z 63")?, fault(1, 3));
-        assert_eq!(rt; fault_of(alloc, b"send 0 y 64")?, fault(1, 3));
         assert_eq!(rt; fault_of(alloc, b"send 9 x 64\nsend 8 x 63")?, fault(2, 4));
         assert_eq!(rt; fault_of(alloc, b"send 0 x 63")?, fault(1, 5));
         assert_eq!(rt; fault_of(alloc, b"set 0 a>b on")?, fault(1, 6));
