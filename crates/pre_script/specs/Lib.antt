@@ -4,3 +4,4 @@ pub mod Drafts
 pub mod Saying
 pub mod Reading
 pub mod Fits
+pub mod Text

@@ -6,14 +6,16 @@ mod reading;
 mod rules;
 mod saying;
 mod scripts;
+mod writing;
 
 pub use reading::read_script;
 pub use scripts::{Damage, Loss, Script, ScriptFault, SendLine, SetLine, Setting};
+pub use writing::put_script;
 
 #[cfg(test)]
 mod tests {
     use super::*;
-    use pre_base::{ArcId, Send, StreamId, Tick};
+    use pre_base::{ArcId, MemorySink, Send, StreamId, Tick};
     use std::alloc::Global;
     use std::test::Fail;
 
@@ -64,6 +66,20 @@ mod tests {
         assert_eq!(rt; damage.ordinal, 0);
         assert_eq!(rt; damage.offset, 9);
         assert_eq!(rt; damage.octets.as_slice(), [10, 255].as_slice());
+        Ok(())
+    }
+
+    #[test]
+    fn what_is_written_is_read_back(rt: HostRuntime) -> Result<(), Fail> {
+        let alloc = rt.alloc();
+        let net = pre_topo::pair(alloc)?;
+        let streams = pre_streams::pair(alloc)?;
+        let text = b"send 5 x 64\ndamage b>a 3 7 0AfF\nlose a>b 2\n# more\nsend 6  y 1522\nuntil 9";
+        let script = read_script(alloc, text, &net, &streams).ok().ok_or("script")?;
+        let mut sink = MemorySink::make(alloc, 128, 128, &[])?;
+        assert!(rt; put_script(&script, &net, &streams, &mut sink).is_ok());
+        let written = b"send 5 x 64\nsend 6 y 1522\nlose a>b 2\ndamage b>a 3 7 0aff\nuntil 9\n";
+        assert_eq!(rt; sink.octets(), written.as_slice());
         Ok(())
     }
 
