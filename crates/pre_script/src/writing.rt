@@ -1,4 +1,4 @@
-ghost use Rattle.std.specs.Prelude.{◌≡◌, IfOk};
+ghost use Rattle.std.specs.Prelude.{◌≡◌, IfOk, nat_le, position};
 ghost use Rattle.pre_base.specs.Faults.{HasCause};
 ghost use Rattle.pre_base.specs.Told.{WhereTold};
 ghost use Rattle.pre_base.specs.Sinks.{TakesAll};
@@ -74,12 +74,20 @@ fn put_sets<S: Sink>(net: &Network, sets: &[SetLine], sink: &mut S) -> Result<()
     Ok(())
 }
 
+fn first_since(sets: &[SetLine], tick: Tick) -> Option<usize>
+    ensures { result ≡ position (λ s. nat_le tick.0 s.tick.0) sets.now }
+{
+    sets.iter().position(|line| line.tick.0 >= tick.0)
+}
+
 /// The first sets, as far as they are before the tick, and the others.
 fn cut_at_tick(sets: &[SetLine], tick: Tick) -> (&[SetLine], &[SetLine])
     ensures { (result.0.now ≡ sets_before tick.0 sets.now) × (result.1.now ≡ sets_since tick.0 sets.now) }
 {
-    let count = sets.iter().position(|line| line.tick.0 >= tick.0);
-    sets.split_at(count.unwrap_or(sets.len()))
+    match first_since(sets, tick) {
+        Some(count) => sets.split_at(count),
+        None => sets.split_at(sets.len()),
+    }
 }
 
 /// Writes the sets before the tick, and answers the others.
