@@ -5,3 +5,4 @@ pub mod Saying
 pub mod Reading
 pub mod Fits
 pub mod Text
+pub mod Same

@@ -2,12 +2,14 @@
 #![tactic(auto)]
 
 mod drafts;
+mod laws;
 mod reading;
 mod rules;
 mod saying;
 mod scripts;
 mod writing;
 
+pub use laws::script_reads_back;
 pub use reading::read_script;
 pub use scripts::{Damage, Loss, Script, ScriptFault, SendLine, SetLine, Setting};
 pub use writing::put_script;

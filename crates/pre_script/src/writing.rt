@@ -174,7 +174,7 @@ fn put_until<S: Sink>(tick: Tick, sink: &mut S) -> Result<(), Failed>
 }
 
 /// Writes a script as a text that `read_script` reads as the same script, but for the numbers of the lines
-/// (`scripts_read_back`): sends and sets by their ticks, and behind them losses, damages and `until`.
+/// (`script_reads_back`): sends and sets by their ticks, and behind them losses, damages and `until`.
 ///
 /// # Errors
 ///
