@@ -1,10 +1,7 @@
 -- A script that was read fits.
-use Rattle.std.proofs.Common.{◌≡◌, ℕ, ◌^◌, ◌<◌, ◌≤◌, Bool, true, false, ◌&&◌, nat_le, nat_lt, List, [], ◌∷◌, length, get_or, Option, Some, None, Result, Ok, Err, IsTrue, IfOk, All, AllPairs, refl, sym, ap, subst, arith, slice_get, is_some, if◌then◌else◌, codes}
-use Rattle.std.specs.Option.{option_and_then}
+use Rattle.std.proofs.Common.{◌≡◌, ℕ, ◌^◌, ◌<◌, ◌≤◌, Bool, true, false, ◌&&◌, nat_le, nat_lt, List, [], ◌∷◌, length, get_or, Option, Some, None, Result, Ok, Err, IfOk, All, AllPairs, refl, sym, subst, arith, slice_get, is_some, if◌then◌else◌, codes}
 use Rattle.std.specs.List.{list_all}
 use Rattle.std.specs.Str.{bytes_eq}
-use Rattle.std.proofs.lemmas.Bool.{false≢true}
-use Rattle.std.proofs.lemmas.Bool.Decides.{nat_tests}
 use Rattle.std.proofs.lemmas.List.Elements.{All-push}
 use Rattle.std.proofs.lemmas.List.Quantifiers.{all_pairs_push}
 use Rattle.std.proofs.lemmas.List.Sums.{AllPass-from_list_all}
@@ -28,7 +25,7 @@ use Rattle.pre_script.specs.Seen.{Seen, nothing_seen, with_said, comes_last}
 use Rattle.pre_script.specs.Saying.{damage_said, four, lose_said, negotiates_at, one, three, two, said_by, send_said, send_of_size, set_said, setting_at, setting_of, until_said}
 use Rattle.pre_script.specs.Reading.{ReadsAs, after_line, after_lines, after_words, ended, is_comment, script_of, told, then_after, until_end}
 use Rattle.pre_script.specs.Fits.{Fits, IsDamage, IsLoss, IsSend, IsSet, SendsInOrder, SetsInOrder}
-use Rattle.pre_script.proofs.Values.{arc_known, at_most, below, both, if-Some, number_below, octets_read}
+use Rattle.pre_script.proofs.Values.{arc_known, at_most, below, both, number_below, octets_read}
 
 given-Ok : {A B : Type 0} (o : Option A) (rule : ℕ) (next : A → Result B ℕ) (r : B) → given o rule next ≡ Ok r → (x : A) × (o ≡ Some x) × (next x ≡ Ok r)
 given-Ok None rule next r e = absurd cc

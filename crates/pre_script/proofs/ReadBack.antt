@@ -1,5 +1,5 @@
 -- A script that fits is read back.
-use Rattle.std.proofs.Common.{◌≡◌, ℕ, ◌+◌, ◌^◌, ◌<◌, ◌≤◌, false, true, IsTrue, slice_get, List, [], ◌∷◌, ◌++◌, length, map, Option, Some, None, Ok, Result, refl, sym, ◌∙◌, ap, append_assoc, arith, codes}
+use Rattle.std.proofs.Common.{◌≡◌, ℕ, ◌+◌, ◌^◌, ◌<◌, ◌≤◌, false, true, IsTrue, slice_get, List, [], ◌∷◌, ◌++◌, length, map, Option, Some, None, Ok, refl, sym, ◌∙◌, ap, append_assoc, arith, codes}
 use Rattle.std.specs.Fmt.{decimal}
 use Rattle.std.specs.Option.{option_map_or}
 use Rattle.std.proofs.lemmas.Bool.{false≢true}
@@ -26,7 +26,7 @@ use Rattle.pre_script.specs.declared.saying.Said.TheVariants as said
 use Rattle.pre_script.specs.Rules.{horizon, max_damaged, max_damages, max_losses, max_sends, max_sets, negotiates}
 use Rattle.pre_script.specs.Saying.{negotiates_at}
 use Rattle.pre_script.specs.Seen.{Seen, nothing_seen, with_said}
-use Rattle.pre_script.specs.Fits.{Fits, IsDamage, IsLoss, IsSend, IsSet}
+use Rattle.pre_script.specs.Fits.{Fits, IsDamage, IsLoss, IsSend}
 use Rattle.pre_script.specs.Reading.{ended, script_of}
 use Rattle.pre_script.specs.Same.{IsSame}
 use Rattle.pre_script.specs.Text.{damage_line, damage_lines, loss_line, loss_lines, row_name, script_text, send_line, set_line, set_lines, setting_word, sets_before, sets_since, timed_lines, until_line}
@@ -197,14 +197,14 @@ timed_read net streams streams_fit (s ∷ sends) sets rest n seen low h =
     let whole = rejoined tick sets in
     let counts : length before + length since ≡ length sets = sym (length-append before since) ∙ ap length whole in
     let text : timed_lines net streams (s ∷ sends) sets ++ rest ≡ set_lines net before ++ (send_line streams s ++ (left ++ rest))
-            = append_assoc (set_lines net before) (send_line streams s ++ left) rest ∙ ap (λ (l : List ℕ). set_lines net before ++ l) (append_assoc (send_line streams s) left rest) in
+    = append_assoc (set_lines net before) (send_line streams s ++ left) rest ∙ ap (λ (l : List ℕ). set_lines net before ++ l) (append_assoc (send_line streams s) left rest) in
     let first = sets_read net streams before (send_line streams s ++ (left ++ rest)) n seen (record { low = low; from = before_from net low tick sets h.sets_from; is_open = h.is_open; few = omega (arith, h.few_sets, counts) }) in
     let seen1 : Seen = record seen { sets = seen.sets ++ before } in
     let open1 : IsOpen seen1 tick = open_sets seen low tick sets h.sends_from.0 h.is_open in
     let line : SendLine = record { send = s.send; line = first.0 } in
     let seen2 : Seen = record seen1 { sends = seen.sends ++ line ∷ [] } in
     let second : rest_read net streams seen1 first.0 (send_line streams s ++ (left ++ rest)) ≡ rest_read net streams seen2 (first.0 + 1) (left ++ rest)
-            = send_read net streams seen1 first.0 s (left ++ rest) streams_fit h.sends_from.1 open1 (omega (arith, h.few_sends)) in
+    = send_read net streams seen1 first.0 s (left ++ rest) streams_fit h.sends_from.1 open1 (omega (arith, h.few_sends)) in
     let third = timed_read net streams streams_fit sends since rest (first.0 + 1) seen2 tick (record {
       sends_from = h.sends_from.2;
       sets_from = since_from net low tick sets h.sets_from;
@@ -214,8 +214,8 @@ timed_read net streams streams_fit (s ∷ sends) sets rest n seen low h =
     }) in
     let all_sets : (seen.sets ++ before) ++ since ≡ seen.sets ++ sets = append_assoc seen.sets before since ∙ ap (λ (l : List SetLine). seen.sets ++ l) whole in
     let ends : with_timed seen2 third.found since ≡ with_timed seen (line ∷ third.found) sets
-            = ap (λ (l : List SendLine). record seen { sends = l; sets = (seen.sets ++ before) ++ since }) (append_assoc seen.sends (line ∷ []) third.found)
-            ∙ ap (λ (l : List SetLine). record seen { sends = seen.sends ++ line ∷ third.found; sets = l }) all_sets in
+    = ap (λ (l : List SendLine). record seen { sends = l; sets = (seen.sets ++ before) ++ since }) (append_assoc seen.sends (line ∷ []) third.found)
+    ∙ ap (λ (l : List SetLine). record seen { sends = seen.sends ++ line ∷ third.found; sets = l }) all_sets in
     record {
       found = line ∷ third.found;
       next = third.next;
@@ -256,13 +256,12 @@ reads_back net streams script streams_fit fits =
     let until = until_read net streams seen3 damages.0 script.until fits.until refl in
     let text = script_text net streams script in
     let all : rest_read net streams nothing_seen 1 text ≡ Ok (record seen3 { until = Some script.until })
-            = timed.read
-            ∙ losses.1
-            ∙ ap (λ (k : Seen). rest_read net streams k losses.0 rest2) (losses_added seen1 script.losses)
-            ∙ damages.1
-            ∙ ap (λ (k : Seen). rest_read net streams k damages.0 rest3) (damages_added seen2 script.damages)
-            ∙ until in
-    (
+    = timed.read
+    ∙ losses.1
+    ∙ ap (λ (k : Seen). rest_read net streams k losses.0 rest2) (losses_added seen1 script.losses)
+    ∙ damages.1
+    ∙ ap (λ (k : Seen). rest_read net streams k damages.0 rest3) (damages_added seen2 script.damages)
+    ∙ until in (
       record { sends = timed.found; sets = script.sets; losses = script.losses; damages = script.damages; until = script.until },
       ap (ended (length (lines_of text))) all,
       record { sends = timed.same; sets = refl; losses = refl; damages = refl; until = refl },

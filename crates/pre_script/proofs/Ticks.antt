@@ -1,5 +1,5 @@
 -- Sends and sets that are in the order of their ticks.
-use Rattle.std.proofs.Common.{◌≡◌, ℕ, zero, suc, ◌+◌, ◌<◌, ◌≤◌, Bool, true, false, ◌&&◌, nat_le, nat_lt, if◌then◌else◌, List, [], ◌∷◌, ◌++◌, length, get_or, All, AllPairs, None, refl, sym, ◌∙◌, ap, arith}
+use Rattle.std.proofs.Common.{◌≡◌, ℕ, suc, ◌≤◌, Bool, true, false, nat_le, nat_lt, if◌then◌else◌, List, [], ◌∷◌, ◌++◌, All, AllPairs, None, refl, ◌∙◌, ap, arith}
 use Rattle.std.specs.List.{list_all}
 use Rattle.std.proofs.lemmas.Bool.Decides.{nat_tests}
 use Rattle.std.proofs.lemmas.List.Folds.{list_all-append}
@@ -7,7 +7,7 @@ use Rattle.pre_topo.specs.declared.network.Network.{Network}
 use Rattle.pre_streams.specs.declared.rows.Streams.{Streams}
 use Rattle.pre_script.specs.declared.scripts.SendLine.{SendLine}
 use Rattle.pre_script.specs.declared.scripts.SetLine.{SetLine}
-use Rattle.pre_script.specs.Seen.{Seen, are_before, comes_last}
+use Rattle.pre_script.specs.Seen.{Seen, comes_last}
 use Rattle.pre_script.specs.Fits.{IsSend, IsSet, SendsInOrder, SetsInOrder}
 use Rattle.pre_script.specs.Text.{sets_before, sets_since}
 use Rattle.pre_script.proofs.Values.{at_most, both}

@@ -32,7 +32,7 @@ send_breaks net streams sends rest whole i d a b c e r lt fails so_far sets took
     let tick = (get_or sends i d).send.tick.0 in
     let left = timed_lines net streams (drop (i + 1) sends) (sets_since tick rest) in
     let more = goes_on a b c whole (set_lines net (sets_before tick rest)) (send_line streams (get_or sends i d) ++ left)
-        (subst (λ (l : List ℕ). WhereTold a b (TakesBut l whole)) (next_is net streams sends rest i d lt) so_far) sets in
+    (subst (λ (l : List ℕ). WhereTold a b (TakesBut l whole)) (next_is net streams sends rest i d lt) so_far) sets in
     breaks a c e whole (send_line streams (get_or sends i d)) left r fails more took
 
 -- no send is left

@@ -17,8 +17,9 @@ use std::alloc::Global;
 /// The script that a text spells for this network and these streams.
 ///
 /// Each line is `send TICK STREAM SIZE`, `set TICK ARC VALUE`, `lose ARC ORDINAL`, `damage ARC ORDINAL OFFSET HEX` or, as
-/// the last one, `until TICK`, its words parted by spaces. HEX is 1 to 32 octets, in pairs of digits of either case. Lines without words and those that begin with `#` are skipped, and counted. The first line with a fault
-/// is answered, and of its rules the first in the order 8, 1, 2, 3, 4, 5, 6, 9, 10.
+/// the last one, `until TICK`, its words parted by spaces. HEX is 1 to 32 octets, in pairs of digits of either case.
+/// Lines without words and those that begin with `#` are skipped, and counted. The first line with a fault is answered,
+/// and of its rules the first in the order 8, 1, 2, 3, 4, 5, 6, 9, 10.
 ///
 /// # Errors
 ///

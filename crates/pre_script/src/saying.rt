@@ -73,9 +73,7 @@ fn two_words<'a>(words: &mut LineWords<'a>) -> Option<(&'a [u8], &'a [u8])>
     }
 }
 
-fn four_words<'a>(
-    words: &mut LineWords<'a>,
-) -> Option<(&'a [u8], &'a [u8], &'a [u8], &'a [u8])>
+fn four_words<'a>(words: &mut LineWords<'a>) -> Option<(&'a [u8], &'a [u8], &'a [u8], &'a [u8])>
     ensures { option_map (λ w. (w.0.now, w.1.now, w.2.now, w.3.now)) result ≡ four words.old }
 {
     let first = words.next_word()?;
@@ -146,12 +144,7 @@ fn send_of(
     send_of_size(draft, row, line, tick, stream, size)
 }
 
-fn send_said(
-    draft: &Draft,
-    streams: &Streams,
-    line: u64,
-    words: &mut LineWords,
-) -> Result<Said, u8>
+fn send_said(draft: &Draft, streams: &Streams, line: u64, words: &mut LineWords) -> Result<Said, u8>
     requires { IsLatest draft.now }
     ensures { result ≡ send_said streams.now (seen draft.now) line words.old }
 {

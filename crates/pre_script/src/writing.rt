@@ -188,7 +188,13 @@ pub fn put_script<S: Sink>(
     ensures octets { WhereTold (S.tells sink.old) (S.tells sink.new) (TakesAll result (script_text net.now streams.now script.now)) }
     ensures cause { HasCause (S.faults sink.old) (S.faults sink.new) result }
 {
-    put_timed(net, streams, script.sends.as_slice(), script.sets.as_slice(), sink)?;
+    put_timed(
+        net,
+        streams,
+        script.sends.as_slice(),
+        script.sets.as_slice(),
+        sink,
+    )?;
     put_losses(net, script.losses.as_slice(), sink)?;
     put_damages(net, script.damages.as_slice(), sink)?;
     put_until(script.until, sink)
