@@ -47,7 +47,11 @@ step_then s t u step.Ended a b c torn (es, told, same, goes) q = (
   tells_then s.run.net a b c es q.0 told (subst (λ (w : Scenario). TellsAll w.net b c q.0) same q.1),
   λ h has. subst (λ (w : Scenario). Legal w (h ++ (es ++ q.0))) same (subst (Legal t.run) (append_assoc h es q.0) (q.2 (h ++ es) (goes h has))),
 )
-step_then s t u (step.Alias arc ordinal) a b c torn p q = q
+step_then s t u (step.Alias arc ordinal) a b c torn (es, told, same, goes) q = (
+  es ++ q.0,
+  tells_then s.run.net a b c es q.0 told (subst (λ (w : Scenario). TellsAll w.net b c q.0) same q.1),
+  λ h has. ?,
+)
 step_then s t u step.Memory a b c torn (es, told, same, goes) q = (
   es ++ q.0,
   tells_then s.run.net a b c es q.0 told (subst (λ (w : Scenario). TellsAll w.net b c q.0) same q.1),
