@@ -14,7 +14,8 @@ use Rattle.pre_send.specs.Sendings.{Sending, Part, interrupted, IsSending, IsFre
 use Rattle.pre_send.specs.Answers.{NewestIs, IsUnderWayAs, kept_part}
 use Rattle.pre_send.specs.Senders.{Stands, chosen}
 use Rattle.pre_history.specs.declared.events.What.TheVariants as what
-use Rattle.pre_history.specs.Scenario.{Scenario, arc, last}
+use Rattle.pre_base.specs.Last.{last}
+use Rattle.pre_history.specs.Scenario.{Scenario, arc}
 use Rattle.pre_history.specs.History.{PlainEvent, History, Begin}
 use Rattle.pre_history.specs.Selected.{active_on, begin_on}
 use Rattle.pre_history.specs.Queries.{Begins, Ends}

@@ -37,8 +37,11 @@ fn may_begin(out: &Outgoing, choice: &Choice) -> bool
     ensures other { result ≡ true → ¬ IsLldp choice.now }
 {
     match choice {
-        Choice::Express(frame) | Choice::Whole(frame) => frame.size >= 64 && frame.size <= GREATEST_FRAME,
-        Choice::First(frame) => frame.size >= 64 && frame.size <= GREATEST_FRAME && !out.is_interrupted(),
+        Choice::Express(frame) | Choice::Whole(frame) => frame.size >= 64
+            && frame.size <= GREATEST_FRAME,
+        Choice::First(frame) => frame.size >= 64
+            && frame.size <= GREATEST_FRAME
+            && !out.is_interrupted(),
         Choice::Rest => out.is_interrupted(),
         Choice::Verify | Choice::Respond => true,
         Choice::Lldp => false,
