@@ -5,3 +5,6 @@ pub mod Lists
 pub mod Counts
 pub mod Keeping
 pub mod TellParts
+pub mod Others
+pub mod Rows
+pub mod Readiness

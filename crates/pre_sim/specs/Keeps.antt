@@ -11,7 +11,7 @@ use Rattle.pre_history.specs.Scenario.{Scenario, arc, row, send, FrameOf}
 use Rattle.pre_history.specs.Comings.{hops}
 use Rattle.pre_bridge.specs.declared.relays.Relay.{Relay}
 use Rattle.pre_send.specs.Owned.{frames_of}
-use Rattle.pre_links.specs.Standing.{IsReady, IsSettled}
+use Rattle.pre_links.specs.Standing.{IsReady, IsUpTo}
 use Rattle.pre_bridge.specs.Inside.{Call, Entry, inside}
 use Rattle.pre_bridge.specs.Relays.{Stands}
 use Rattle.pre_sim.specs.declared.lanes.Lane.{Lane}
@@ -103,7 +103,7 @@ abbrev pub AreReady : ℕ → List Lane → Type 0
 AreReady tick lanes = (a : ℕ) (lane : Lane) → slice_get lanes a ≡ Some lane → IsReady lane.link tick
 
 abbrev pub AreSettled : ℕ → List Lane → Type 0
-AreSettled tick lanes = (a : ℕ) (lane : Lane) → slice_get lanes a ≡ Some lane → IsSettled lane.link tick
+AreSettled tick lanes = (a : ℕ) (lane : Lane) → slice_get lanes a ≡ Some lane → IsUpTo lane.link tick
 
 -- the links stay as they were
 abbrev pub SameLinks : List Lane → List Lane → Type 0

@@ -1,5 +1,6 @@
-ghost use Rattle.std.specs.Prelude.{◌≡◌, ◌<◌, ◌≤◌, ◌+◌, ◌*◌, ◌^◌, List, [], None, length};
+ghost use Rattle.std.specs.Prelude.{◌≡◌, ◌<◌, ◌≤◌, ◌+◌, ◌++◌, ◌*◌, ◌^◌, IfOk, List, [], None, length};
 ghost use Rattle.std.specs.Result.{OnOk};
+ghost use Rattle.pre_mpacket.specs.Spelling.{head_of, IsWhole};
 ghost use Rattle.pre_bridge.specs.Inside.{Entry};
 ghost use Rattle.pre_links.specs.Standing.{IsReady};
 ghost use Rattle.pre_history.specs.Moments.{Phase};
@@ -14,9 +15,10 @@ use crate::telling::tell;
 use pre_base::{ArcId, Tick};
 use pre_history::{events_before_their_end, mpackets_in_order};
 use pre_incoming::{OnWire, sent_octets};
-use pre_mpacket::MPacket;
+use pre_mpacket::{Kind, MPacket};
 use pre_rings::FrameStore;
 use pre_trace::{Event, Watcher};
+use std::alloc::AllocError;
 
 /// The mData of a verify or a respond.
 const ZEROS: [u8; 60] = [0; 60];
@@ -47,12 +49,7 @@ pub(crate) fn end_on<W: Watcher>(
     }
     let link = arc_at(plan.net, arc);
     let (kind, mdata, check) = lane.outgoing.packet(store, &ZEROS);
-    let packet = MPacket {
-        kind,
-        mdata,
-        check: &check,
-    };
-    let octets = sent_octets(plan.alloc, &packet)?;
+    let octets = on_wire(plan, kind, mdata, &check)?;
     let finished = lane.outgoing.finish(now, store);
     lane.link.mpacket_ended(now);
     lane.incoming.push(OnWire {
@@ -74,6 +71,20 @@ pub(crate) fn end_on<W: Watcher>(
         check,
     };
     tell(plan.net, watcher, &ended)
+}
+
+/// The octets of an mPacket as they are sent.
+fn on_wire(
+    plan: &Plan,
+    kind: Kind,
+    mdata: &[u8],
+    check: &[u8; 4],
+) -> Result<Vec<u8>, AllocError>
+    requires { IsWhole (record { kind = kind; mdata = mdata.now; check = check.now }) }
+    ensures { IfOk result (λ octets. octets.items ≡ head_of kind ++ mdata.now ++ check.now) }
+{
+    let packet = MPacket { kind, mdata, check };
+    sent_octets(plan.alloc, &packet)
 }
 
 /// The ends that are due, arc by arc.

@@ -1,6 +1,6 @@
 ghost use Rattle.std.specs.Prelude.{◌≡◌, ◌<◌, ◌≤◌, ◌+◌, ◌*◌, ◌^◌, [], OnOk, Some, length};
 ghost use Rattle.pre_topo.specs.Arcs.{reverse_of};
-ghost use Rattle.pre_links.specs.Standing.{IsReady, IsSettled};
+ghost use Rattle.pre_links.specs.Standing.{IsReady, IsUpTo};
 ghost use Rattle.pre_history.specs.Moments.{Phase};
 ghost use Rattle.pre_sim.specs.Telling.{HasCause};
 ghost use Rattle.pre_sim.specs.Keeps.{Store, AreReady, AreSettled};
@@ -28,7 +28,7 @@ pub(crate) fn expire_on<W: Watcher>(
     requires arc { arc.0 < length plan.now.net.now.arcs }
     requires now { now.0 ≤ 4 * 10 ^ 12 }
     requires ready { IsReady lane.old.link now.0 }
-    ensures settled { IsSettled lane.new.link now.0 }
+    ensures settled { IsUpTo lane.new.link now.0 }
     ensures part { TellsPart plan.now.net.now result (W.took watcher.old) (W.took watcher.new) (W.torn watcher.new) (λ x es. (store : Store) → LanePart (scenario_of plan.now) now.0 (Phase.expiries arc.0) arc.0 (Some partner.now) lane.old 0 store store lane.new [] es) (LaneFront (scenario_of plan.now) now.0 (Phase.expiries arc.0) arc.0 (Some partner.now) lane.old) NoArrival }
     ensures cause { HasCause (W.faults watcher.old) (W.faults watcher.new) result }
     ensures same { W.same watcher.old watcher.new }

@@ -1,7 +1,7 @@
 ghost use Rattle.std.specs.Prelude.{◌≡◌, ◌<◌, ◌≤◌, ◌+◌, ◌*◌, ◌^◌, List, [], Some, true, length, slice_get};
 ghost use Rattle.pre_send.specs.Senders.{is_free, is_interrupted};
 ghost use Rattle.pre_topo.specs.declared.arcs.Mode.TheVariants.{Negotiate};
-ghost use Rattle.pre_links.specs.Standing.{IsSettled};
+ghost use Rattle.pre_links.specs.Standing.{IsUpTo};
 ghost use Rattle.pre_bridge.specs.Inside.{Entry};
 ghost use Rattle.pre_history.specs.Moments.{Phase};
 ghost use Rattle.pre_sim.specs.Telling.{HasCause};
@@ -36,9 +36,9 @@ pub(crate) fn start_on<W: Watcher>(
     requires arc { arc.0 < length plan.now.net.now.arcs }
     requires now { now.0 ≤ 4 * 10 ^ 12 }
     requires fit { AllFit plan.now.net.now plan.now.streams.now plan.now.script.now }
-    requires settled { IsSettled lane.old.link now.0 }
+    requires settled { IsUpTo lane.old.link now.0 }
     requires keeps { (store : Store) × LaneKeeps (scenario_of plan.now) store arc.0 lane.old }
-    ensures settled { IsSettled lane.new.link now.0 }
+    ensures settled { IsUpTo lane.new.link now.0 }
     ensures part { TellsPart plan.now.net.now result (W.took watcher.old) (W.took watcher.new) (W.torn watcher.new) (λ x es. (store : Store) → LanePart (scenario_of plan.now) now.0 (Phase.starts arc.0) arc.0 (Some partner.now) lane.old 0 store store lane.new [] es) (LaneFront (scenario_of plan.now) now.0 (Phase.starts arc.0) arc.0 (Some partner.now) lane.old) NoArrival }
     ensures cause { HasCause (W.faults watcher.old) (W.faults watcher.new) result }
     ensures same { W.same watcher.old watcher.new }
@@ -86,11 +86,11 @@ fn begin_on(
     requires now { now.0 ≤ 4 * 10 ^ 12 }
     requires fit { AllFit plan.now.net.now plan.now.streams.now plan.now.script.now }
     requires free { is_free lane.old.outgoing.sender now.0 ≡ true }
-    requires settled { IsSettled lane.old.link now.0 }
+    requires settled { IsUpTo lane.old.link now.0 }
     requires keeps { (store : Store) × LaneKeeps (scenario_of plan.now) store arc.0 lane.old }
     ensures starts { Starts (scenario_of plan.now) now.0 arc.0 partner.now 1 7 lane.old lane.new result }
     ensures keeps { (store : Store) → KeepsOn (scenario_of plan.now) arc.0 store store lane.old lane.new [] }
-    ensures settled { IsSettled lane.new.link now.0 }
+    ensures settled { IsUpTo lane.new.link now.0 }
 {
     if let Some(frame) = take_first(&mut lane.rings, Prio(link.express_from), Prio(7)) {
         return Some(lane.outgoing.begin(now, Choice::Express(frame)));
@@ -120,10 +120,10 @@ fn begin_for_link(
     requires mode { link.now.mode ≡ Negotiate }
     requires now { now.0 ≤ 4 * 10 ^ 12 }
     requires free { is_free lane.old.outgoing.sender now.0 ≡ true }
-    requires settled { IsSettled lane.old.link now.0 }
+    requires settled { IsUpTo lane.old.link now.0 }
     ensures starts { Starts (scenario_of plan.now) now.0 arc.0 partner.now 2 5 lane.old lane.new result }
     ensures keeps { (store : Store) → KeepsOn (scenario_of plan.now) arc.0 store store lane.old lane.new [] }
-    ensures settled { IsSettled lane.new.link now.0 }
+    ensures settled { IsUpTo lane.new.link now.0 }
 {
     if lane.link.owes_respond(partner) {
         lane.link.respond_begun(now);
@@ -159,11 +159,11 @@ fn begin_preemptable(
     requires fit { AllFit plan.now.net.now plan.now.streams.now plan.now.script.now }
     requires free { is_free lane.old.outgoing.sender now.0 ≡ true }
     requires alone { is_interrupted lane.old.outgoing.sender ≡ false }
-    requires settled { IsSettled lane.old.link now.0 }
+    requires settled { IsUpTo lane.old.link now.0 }
     requires keeps { (store : Store) × LaneKeeps (scenario_of plan.now) store arc.0 lane.old }
     ensures starts { Starts (scenario_of plan.now) now.0 arc.0 partner.now 6 7 lane.old lane.new result }
     ensures keeps { (store : Store) → KeepsOn (scenario_of plan.now) arc.0 store store lane.old lane.new [] }
-    ensures settled { IsSettled lane.new.link now.0 }
+    ensures settled { IsUpTo lane.new.link now.0 }
 {
     let greatest = Prio(link.express_from - 1);
     if is_active(link, lane) {
