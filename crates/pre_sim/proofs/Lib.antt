@@ -8,3 +8,4 @@ pub mod TellParts
 pub mod Others
 pub mod Rows
 pub mod Readiness
+pub mod EndParts

@@ -13,3 +13,4 @@ pub mod Arriving
 pub mod Choices
 pub mod Starting
 pub mod Closing
+pub mod Ending

@@ -1,11 +1,15 @@
-ghost use Rattle.std.specs.Prelude.{◌≡◌, ◌<◌, ◌≤◌, ◌+◌, ◌++◌, ◌*◌, ◌^◌, IfOk, List, [], None, length};
-ghost use Rattle.std.specs.Result.{OnOk};
-ghost use Rattle.pre_mpacket.specs.Spelling.{head_of, IsWhole};
+ghost use Rattle.std.specs.Prelude.{◌≡◌, ◌<◌, ◌≤◌, ◌+◌, ◌*◌, ◌^◌, IfOk, IsSome, List, [], None, length, replicate};
+ghost use Rattle.std.specs.List.{AllByRecursion as Every};
+ghost use Rattle.pre_rings.specs.Stores.{IsOut};
+ghost use Rattle.pre_send.specs.Endings.{plans_end};
+ghost use Rattle.pre_send.specs.Owned.{frames_of, frames_done};
+ghost use Rattle.pre_outgoing.specs.Sends.{AreHeld};
 ghost use Rattle.pre_bridge.specs.Inside.{Entry};
 ghost use Rattle.pre_links.specs.Standing.{IsReady};
 ghost use Rattle.pre_history.specs.Moments.{Phase};
 ghost use Rattle.pre_sim.specs.Telling.{HasCause};
 ghost use Rattle.pre_sim.specs.Keeps.{Keeps, LaneKeeps, AreReady};
+ghost use Rattle.pre_sim.specs.Ending.{IsLeaving, without};
 ghost use Rattle.pre_sim.specs.Parts.{TellsPart, NoArrival, LanePart, LaneFront, LanesPart, LanesFront, scenario_of};
 
 use crate::halts::Halt;
@@ -16,9 +20,10 @@ use pre_base::{ArcId, Tick};
 use pre_history::{events_before_their_end, mpackets_in_order};
 use pre_incoming::{OnWire, sent_octets};
 use pre_mpacket::{Kind, MPacket};
-use pre_rings::FrameStore;
+use pre_outgoing::{Finished, Outgoing};
+use pre_rings::{FrameRef, FrameStore};
 use pre_trace::{Event, Watcher};
-use std::alloc::AllocError;
+use std::alloc::{AllocError, Global};
 
 /// The mData of a verify or a respond.
 const ZEROS: [u8; 60] = [0; 60];
@@ -48,43 +53,81 @@ pub(crate) fn end_on<W: Watcher>(
         return Ok(());
     }
     let link = arc_at(plan.net, arc);
-    let (kind, mdata, check) = lane.outgoing.packet(store, &ZEROS);
-    let octets = on_wire(plan, kind, mdata, &check)?;
-    let finished = lane.outgoing.finish(now, store);
+    let Leaving {
+        kind,
+        check,
+        octets,
+    } = next_to_leave(plan.alloc, &lane.outgoing, store, &ZEROS)?;
+    let Finished {
+        ord,
+        what,
+        size,
+        is_last,
+        done,
+        ..
+    } = lane.outgoing.finish(now, store);
     lane.link.mpacket_ended(now);
     lane.incoming.push(OnWire {
-        ord: finished.ord,
+        ord,
         kind,
-        what: finished.what,
-        is_last: finished.is_last,
+        what,
+        is_last,
         due: Tick(now.0 + link.delay),
         octets,
     })?;
-    if let Some(frame) = finished.done {
-        store.give_back(frame.slot);
-    }
+    put_back(store, done);
     let ended = Event::Ended {
         tick: now,
         arc,
-        ord: finished.ord,
-        size: finished.size,
+        ord,
+        size,
         check,
     };
     tell(plan.net, watcher, &ended)
 }
 
-/// The octets of an mPacket as they are sent.
-fn on_wire(
-    plan: &Plan,
+/// An mPacket whose end is due, as it goes on the wire.
+#[derive(Drop)]
+struct Leaving {
     kind: Kind,
-    mdata: &[u8],
-    check: &[u8; 4],
-) -> Result<Vec<u8>, AllocError>
-    requires { IsWhole (record { kind = kind; mdata = mdata.now; check = check.now }) }
-    ensures { IfOk result (λ octets. octets.items ≡ head_of kind ++ mdata.now ++ check.now) }
+    check: [u8; 4],
+    octets: Vec<u8>,
+}
+
+/// The mPacket whose end is due, with its octets as they are sent.
+fn next_to_leave<'a>(
+    alloc: Global,
+    outgoing: &'a Outgoing,
+    store: &'a FrameStore,
+    zeros: &'a [u8],
+) -> Result<Leaving, AllocError>
+    requires going { IsSome (plans_end outgoing.now.sender) }
+    requires held { AreHeld store.now (frames_of outgoing.now.sender) }
+    requires zeros { zeros.now ≡ replicate 60 0 }
+    ensures { IfOk result (λ l. IsLeaving store.now outgoing.now l) }
 {
-    let packet = MPacket { kind, mdata, check };
-    sent_octets(plan.alloc, &packet)
+    let (kind, mdata, check) = outgoing.packet(store, zeros);
+    let packet = MPacket {
+        kind,
+        mdata,
+        check: &check,
+    };
+    let octets = sent_octets(alloc, &packet)?;
+    Ok(Leaving {
+        kind,
+        check,
+        octets,
+    })
+}
+
+/// The slot of a frame whose last octet has left is in again.
+fn put_back(store: &mut FrameStore, done: Option<FrameRef>)
+    requires { Every (λ f. IsOut store.old f.slot) (frames_done done) }
+    ensures { store.new ≡ without store.old done }
+{
+    if let Some(frame) = done {
+        store.give_back(frame.slot);
+    }
 }
 
 /// The ends that are due, arc by arc.
