@@ -9,3 +9,4 @@ pub mod Others
 pub mod Rows
 pub mod Readiness
 pub mod EndParts
+pub mod ExpiryParts
