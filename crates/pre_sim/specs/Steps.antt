@@ -24,7 +24,7 @@ abbrev pub StepTells : SimView → Step → SimView → (List ℕ → History �
 StepTells old More new took took' torn = (es : History) × TellsAll old.run.net took took' es × ((h : History) → HasTold old h → HasTold new (h ++ es))
 StepTells old Ended new took took' torn = (es : History) × TellsAll old.run.net took took' es × ((h : History) → HasTold old h → Legal old.run (h ++ es))
 StepTells old (Alias arc ordinal) new took took' torn =
-    (es : History) × TellsAll old.run.net took took' es × ((h : History) → HasTold old h → FirstAliasAt old.run (h ++ es) old.next arc.0 ordinal)
+    (es : History) × TellsAll old.run.net took took' es × ((h : History) → HasTold old h → (tick : ℕ) × FirstAliasAt old.run (h ++ es) tick arc.0 ordinal)
 StepTells old Stopped new took took' torn =
     (es : History) × (e : PlainEvent) × AreWritten old.run.net es × IsWritten old.run.net e × ((base : List ℕ) (h : History) → took base h → torn base (h ++ es) e)
     × ((h : History) → HasTold old h → IsFrontOfLegal old.run (h ++ (es ++ e ∷ [])))
