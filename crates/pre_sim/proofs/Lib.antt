@@ -10,3 +10,4 @@ pub mod Rows
 pub mod Readiness
 pub mod EndParts
 pub mod ExpiryParts
+pub mod TickParts

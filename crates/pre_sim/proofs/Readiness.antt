@@ -1,10 +1,11 @@
 -- Which links can be settled next.
-use Rattle.std.proofs.Common.{ℕ, ◌≡◌, ◌+◌, ◌<◌, ◌≤◌, List, length, sym, ◌∙◌, inl, inr, arith, subst, Some}
+use Rattle.std.proofs.Common.{ℕ, ◌≡◌, ◌+◌, ◌<◌, ◌≤◌, List, length, sym, ◌∙◌, ap, inl, inr, arith, subst, Some}
 use Rattle.std.proofs.lemmas.Bool.{cases_eq}
 use Rattle.std.specs.Prelude.{slice_get, set}
+use Rattle.pre_history.proofs.Chosen.{from_map, into_map}
 use Rattle.pre_links.specs.Standing.{IsReady, IsUpTo}
 use Rattle.pre_sim.specs.declared.lanes.Lane.{Lane}
-use Rattle.pre_sim.specs.Keeps.{AreReady, AreSettled}
+use Rattle.pre_sim.specs.Keeps.{AreReady, AreSettled, SameLinks}
 use Rattle.pre_sim.proofs.Lists.{set_cases, set_found, set_elsewhere, within}
 
 -- with another lane at an arc whose link is ready
@@ -25,3 +26,13 @@ settled_set n t lanes new all one a lane at = elim (cases_eq a n) [
 
 pub all_settled : (n t : ℕ) (lanes : List Lane) → AreSettledTo n t lanes → length lanes ≤ n → AreSettled t lanes
 all_settled n t lanes all few a lane at = (all a lane at).0 (omega (arith, within lanes a lane at, few))
+
+-- what was settled at a tick is ready at the next one
+pub ready_next : (t : ℕ) (lanes : List Lane) → AreSettled t lanes → AreReady (t + 1) lanes
+ready_next t lanes all a lane at = let one = all a lane at in (omega (arith, one.0), one.1)
+
+-- links that stay as they were are as settled
+pub still_settled : (t : ℕ) (old new : List Lane) → SameLinks old new → AreSettled t old → AreSettled t new
+still_settled t old new same all a lane at =
+    let there = from_map (λ (l : Lane). l.link) old a lane.link (ap (λ xs. slice_get xs a) (sym same) ∙ into_map (λ (l : Lane). l.link) new a lane at) in
+    subst (λ x. IsUpTo x t) there.2 (all a there.0 there.1)

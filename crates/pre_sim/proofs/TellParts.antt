@@ -83,6 +83,14 @@ pub on_ok : {T : Type 0} (net : Network) (r : Result T Halt) (old new : Takes) (
 on_ok net (Ok x) old new torn Whole Front Before P told says = says x told.0 told.2
 on_ok net (Err d) old new torn Whole Front Before P told says = tt
 
+pub on_ok_weaker : {T : Type 0} {P Q : Type 0} (r : Result T Halt) → (P → Q) → OnOk r P → OnOk r Q
+on_ok_weaker (Ok x) weak p = weak p
+on_ok_weaker (Err d) weak p = tt
+
+pub on_ok_of : {T : Type 0} {P : Type 0} (r : Result T Halt) → P → OnOk r P
+on_ok_of (Ok x) p = p
+on_ok_of (Err d) p = tt
+
 -- the number that a test is
 pub byte_of : (b : Bool) → bool_byte b ≡ count_of b
 byte_of true = refl

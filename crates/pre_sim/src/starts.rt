@@ -1,4 +1,4 @@
-ghost use Rattle.std.specs.Prelude.{◌≡◌, ◌<◌, ◌≤◌, ◌+◌, ◌*◌, ◌^◌, List, [], Some, true, length, slice_get};
+ghost use Rattle.std.specs.Prelude.{◌≡◌, ◌<◌, ◌≤◌, ◌+◌, ◌*◌, ◌^◌, List, [], Some, true, false, length, slice_get};
 ghost use Rattle.pre_send.specs.Senders.{is_free, is_interrupted};
 ghost use Rattle.pre_topo.specs.declared.arcs.Mode.TheVariants.{Negotiate};
 ghost use Rattle.pre_links.specs.Standing.{IsUpTo};
