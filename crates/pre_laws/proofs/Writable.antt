@@ -23,7 +23,6 @@ use Rattle.pre_topo.specs.Arcs.{IsArc}
 use Rattle.pre_streams.specs.Fits as streams
 use Rattle.pre_script.specs.Fits as script
 use Rattle.pre_script.specs.Rules.{horizon, negotiates}
-use Rattle.pre_script.specs.Saying.{negotiates_at}
 use Rattle.pre_script.specs.declared.scripts.SetLine.{SetLine}
 use Rattle.pre_script.specs.declared.scripts.Setting.{Setting}
 use Rattle.pre_history.specs.declared.events.What.{What}
@@ -339,7 +338,7 @@ module _ (w : Scenario) (fits : streams.Fits w.net w.streams) (says : script.Fit
     set_written k t a v at (m, lt, m_is) = (tick_small t 0 (omega (arith, lt, m_is)), by_moment (event_moment w (λ e. e ≡ PlainEvent.set t a v) n h legal.0 (any_at (λ e. e ≡ PlainEvent.set t a v) h k (PlainEvent.set t a v) at refl)))
       where
         known_arc : (s : SetLine) → (i : ℕ) → slice_get w.script.sets i ≡ Some s → s.arc.0 < length w.net.arcs
-        known_arc s i at = go (slice_get w.net.arcs s.arc.0) refl (every_at (λ (s : SetLine). IsTrue (negotiates_at w.net s.arc.0)) w.script.sets i s (every_of_all (λ (s : SetLine). IsTrue (negotiates_at w.net s.arc.0)) w.script.sets says.sets) at)
+        known_arc s i at = go (slice_get w.net.arcs s.arc.0) refl (every_at (script.IsSet w.net) w.script.sets i s (every_of_all (script.IsSet w.net) w.script.sets says.sets) at).negotiates
           where
             go : (o : Option Arc) → slice_get w.net.arcs s.arc.0 ≡ o → option_map_or negotiates (slice_get w.net.arcs s.arc.0) false ≡ true → s.arc.0 < length w.net.arcs
             go None is talks = absurd (cc (sym (ap (λ (o : Option Arc). option_map_or negotiates o false) is) ∙ talks))

@@ -1,15 +1,12 @@
 -- A script that was read fits.
-use Rattle.std.proofs.Common.{◌≡◌, ℕ, ◌<◌, ◌≤◌, Bool, true, false, ◌&&◌, nat_le, nat_lt, List, [], ◌∷◌, length, get_or, Option, Some, None, Result, Ok, Err, IsTrue, IfOk, All, AllPairs, refl, sym, ap, subst, arith, slice_get, is_some, if◌then◌else◌, codes}
-use Rattle.std.specs.Option.{option_and_then}
+use Rattle.std.proofs.Common.{◌≡◌, ℕ, ◌^◌, ◌<◌, ◌≤◌, Bool, true, false, ◌&&◌, nat_le, nat_lt, List, [], ◌∷◌, length, get_or, Option, Some, None, Result, Ok, Err, IfOk, All, AllPairs, refl, sym, subst, arith, slice_get, is_some, if◌then◌else◌, codes}
 use Rattle.std.specs.List.{list_all}
 use Rattle.std.specs.Str.{bytes_eq}
-use Rattle.std.proofs.lemmas.Bool.{false≢true}
-use Rattle.std.proofs.lemmas.Bool.Decides.{nat_tests}
 use Rattle.std.proofs.lemmas.List.Elements.{All-push}
 use Rattle.std.proofs.lemmas.List.Quantifiers.{all_pairs_push}
 use Rattle.std.proofs.lemmas.List.Sums.{AllPass-from_list_all}
 use Rattle.std.proofs.lemmas.List.{length_push}
-use Rattle.pre_text.specs.Words.{number_of}
+use Rattle.pre_text.specs.Words.{number_of, pairs_within}
 use Rattle.pre_text.specs.Lines.{words_of, numbered_lines, lines_of}
 use Rattle.pre_base.specs.declared.numbers.Tick.{Tick}
 use Rattle.pre_topo.specs.declared.network.Network.{Network}
@@ -23,11 +20,12 @@ use Rattle.pre_script.specs.declared.scripts.SendLine.{SendLine}
 use Rattle.pre_script.specs.declared.scripts.SetLine.{SetLine}
 use Rattle.pre_script.specs.declared.saying.Said.{Said}
 use Rattle.pre_script.specs.declared.saying.Said.TheVariants as said
-use Rattle.pre_script.specs.Rules.{given, kept, horizon, horizon_rule, max_sends, max_sets, mode_rule, name_rule, number_rule, order_rule, size_rule, word_rule, count_rule, after_rule}
+use Rattle.pre_script.specs.Rules.{given, kept, horizon, horizon_rule, max_damaged, max_damages, max_losses, max_sends, max_sets, mode_rule, name_rule, number_rule, order_rule, size_rule, word_rule, count_rule, after_rule}
 use Rattle.pre_script.specs.Seen.{Seen, nothing_seen, with_said, comes_last}
-use Rattle.pre_script.specs.Saying.{may_be_sent, negotiates_at, one, three, said_by, send_said, send_of_size, sendable, set_said, setting_at, setting_of, until_said}
+use Rattle.pre_script.specs.Saying.{damage_said, four, lose_said, negotiates_at, one, three, two, said_by, send_said, send_of_size, set_said, setting_at, setting_of, until_said}
 use Rattle.pre_script.specs.Reading.{ReadsAs, after_line, after_lines, after_words, ended, is_comment, script_of, told, then_after, until_end}
-use Rattle.pre_script.specs.Fits.{Fits, IsSend, SendsInOrder, SetsInOrder}
+use Rattle.pre_script.specs.Fits.{Fits, IsDamage, IsLoss, IsSend, IsSet, SendsInOrder, SetsInOrder}
+use Rattle.pre_script.proofs.Values.{arc_known, at_most, below, both, number_below, octets_read}
 
 given-Ok : {A B : Type 0} (o : Option A) (rule : ℕ) (next : A → Result B ℕ) (r : B) → given o rule next ≡ Ok r → (x : A) × (o ≡ Some x) × (next x ≡ Ok r)
 given-Ok None rule next r e = absurd cc
@@ -40,56 +38,36 @@ kept-Ok false rule next r e = absurd cc
 -- what may be said next
 abbrev SaidFits : Network → Streams → Seen → Said → Type 0
 SaidFits net streams seen (said.Send s) = IsSend net streams s × (comes_last seen s.send.tick.0 ≡ true) × (length seen.sends < max_sends)
-SaidFits net streams seen (said.Set s) = IsTrue (negotiates_at net s.arc.0) × (comes_last seen s.tick.0 ≡ true) × (length seen.sets < max_sets)
+SaidFits net streams seen (said.Set s) = IsSet net s × (comes_last seen s.tick.0 ≡ true) × (length seen.sets < max_sets)
+SaidFits net streams seen (said.Lose l) = IsLoss net l × (length seen.losses < max_losses)
+SaidFits net streams seen (said.Damage d) = IsDamage net d × (length seen.damages < max_damages)
 SaidFits net streams seen (said.Until tick) = tick.0 ≤ horizon net
-
-both : (p q : Bool) → (p && q) ≡ true → (p ≡ true) × (q ≡ true)
-both true true e = (refl, refl)
-both true false e = absurd (false≢true e)
-both false q e = absurd (false≢true e)
-
-at_most : (m n : ℕ) → nat_le m n ≡ true → m ≤ n
-at_most m n e = grind (arith, nat_tests)
-
-below : (m n : ℕ) → nat_lt m n ≡ true → m < n
-below m n e = grind (arith, nat_tests)
-
-if-Some : {A : Type 0} (b : Bool) (x y : A) → (if b then Some x else None) ≡ Some y → (b ≡ true) × (x ≡ y)
-if-Some true x y e = (refl, cc)
-if-Some false x y e = absurd cc
 
 if-Option : {A : Type 0} (b : Bool) (o : Option A) (y : A) → (if b then o else None) ≡ Some y → (b ≡ true) × (o ≡ Some y)
 if-Option true o y e = (refl, e)
 if-Option false o y e = absurd cc
 
-sendable-Some' : (net : Network) (o : Option Row) (row : Row) → option_and_then (λ row. if may_be_sent net row then Some row else None) o ≡ Some row → (o ≡ Some row) × (may_be_sent net row ≡ true)
-sendable-Some' net None row e = absurd cc
-sendable-Some' net (Some r) row e =
-    let w = if-Some (may_be_sent net r) r row e in
-    (ap Some w.1, subst (λ (q : Row). may_be_sent net q ≡ true) w.1 w.0)
-
-send_fits : (net : Network) (streams : Streams) (seen : Seen) (row : Row) (line tick stream size : ℕ) (s : Said) → sendable net streams stream ≡ Some row → send_of_size seen row line tick stream size ≡ Ok s → SaidFits net streams seen s
-send_fits net streams seen row line tick stream size s can e =
+send_fits : (net : Network) (streams : Streams) (seen : Seen) (row : Row) (line tick stream size : ℕ) (s : Said) → slice_get streams.rows stream ≡ Some row → tick < 2 ^ 64 → send_of_size seen row line tick stream size ≡ Ok s → SaidFits net streams seen s
+send_fits net streams seen row line tick stream size s known early e =
     let order = kept-Ok (comes_last seen tick) order_rule _ s e in
     let sized = kept-Ok (nat_le 64 size && nat_le size row.max) size_rule _ s order.1 in
     let few = kept-Ok (nat_lt (length seen.sends) max_sends) count_rule _ s sized.1 in
     let sizes = both (nat_le 64 size) (nat_le size row.max) sized.0 in
-    let known = sendable-Some' net (slice_get streams.rows stream) row can in
     let is : said.Send (record { send = record { tick = record { 0 = tick }; stream = record { 0 = stream }; size = size }; line = line }) ≡ s = cc (few.1) in
     subst (SaidFits net streams seen) is (
-      record { row = row; known = known.0; least = at_most 64 size sizes.0; most = at_most size row.max sizes.1; plain = known.1 },
+      record { row = row; known = known; least = at_most 64 size sizes.0; most = at_most size row.max sizes.1; tick = early },
       order.0,
       below (length seen.sends) max_sends few.0,
     )
 
-send_said_fits : (net : Network) (streams : Streams) (seen : Seen) (line : ℕ) (words : List (List ℕ)) (s : Said) → send_said net streams seen line words ≡ Ok s → SaidFits net streams seen s
+send_said_fits : (net : Network) (streams : Streams) (seen : Seen) (line : ℕ) (words : List (List ℕ)) (s : Said) → send_said streams seen line words ≡ Ok s → SaidFits net streams seen s
 send_said_fits net streams seen line words s e =
     let w = given-Ok (three words) word_rule _ s e in
     let tick = given-Ok (number_of w.0.0) number_rule _ s w.2 in
     let size = given-Ok (number_of w.0.2) number_rule _ s tick.2 in
     let stream = given-Ok (row_named streams w.0.1) name_rule _ s size.2 in
-    let row = given-Ok (sendable net streams stream.0) name_rule _ s stream.2 in
-    send_fits net streams seen row.0 line tick.0 stream.0 size.0 s row.1 row.2
+    let row = given-Ok (slice_get streams.rows stream.0) name_rule _ s stream.2 in
+    send_fits net streams seen row.0 line tick.0 stream.0 size.0 s row.1 (number_below w.0.0 tick.0 tick.1) row.2
 
 set_said_fits : (net : Network) (streams : Streams) (seen : Seen) (words : List (List ℕ)) (s : Said) → set_said net seen words ≡ Ok s → SaidFits net streams seen s
 set_said_fits net streams seen words s e =
@@ -101,7 +79,38 @@ set_said_fits net streams seen words s e =
     let few = kept-Ok (nat_lt (length seen.sets) max_sets) count_rule _ s value.2 in
     let can = if-Option (negotiates_at net arc.0) (setting_of w.0.2) value.0 value.1 in
     let is : said.Set (record { tick = record { 0 = tick.0 }; arc = record { 0 = arc.0 }; value = value.0 }) ≡ s = cc (few.1) in
-    subst (SaidFits net streams seen) is (can.0, order.0, below (length seen.sets) max_sets few.0)
+    subst (SaidFits net streams seen) is (record { negotiates = can.0; tick = number_below w.0.0 tick.0 tick.1 }, order.0, below (length seen.sets) max_sets few.0)
+
+lose_said_fits : (net : Network) (streams : Streams) (seen : Seen) (words : List (List ℕ)) (s : Said) → lose_said net seen words ≡ Ok s → SaidFits net streams seen s
+lose_said_fits net streams seen words s e =
+    let w = given-Ok (two words) word_rule _ s e in
+    let ordinal = given-Ok (number_of w.0.1) number_rule _ s w.2 in
+    let arc = given-Ok (arc_named net w.0.0) name_rule _ s ordinal.2 in
+    let few = kept-Ok (nat_lt (length seen.losses) max_losses) count_rule _ s arc.2 in
+    let is : said.Lose (record { arc = record { 0 = arc.0 }; ordinal = ordinal.0 }) ≡ s = cc (few.1) in
+    subst (SaidFits net streams seen) is (record { known = arc_known net w.0.0 arc.0 arc.1; ordinal = number_below w.0.1 ordinal.0 ordinal.1 }, below (length seen.losses) max_losses few.0)
+
+damage_said_fits : (net : Network) (streams : Streams) (seen : Seen) (words : List (List ℕ)) (s : Said) → damage_said net seen words ≡ Ok s → SaidFits net streams seen s
+damage_said_fits net streams seen words s e =
+    let w = given-Ok (four words) word_rule _ s e in
+    let ordinal = given-Ok (number_of w.0.1) number_rule _ s w.2 in
+    let offset = given-Ok (number_of w.0.2) number_rule _ s ordinal.2 in
+    let octets = given-Ok (pairs_within max_damaged w.0.3) number_rule _ s offset.2 in
+    let arc = given-Ok (arc_named net w.0.0) name_rule _ s octets.2 in
+    let few = kept-Ok (nat_lt (length seen.damages) max_damages) count_rule _ s arc.2 in
+    let read = octets_read max_damaged w.0.3 octets.0 octets.1 in
+    let is : said.Damage (record { arc = record { 0 = arc.0 }; ordinal = ordinal.0; offset = offset.0; octets = octets.0 }) ≡ s = cc (few.1) in
+    subst (SaidFits net streams seen) is (
+      record {
+        known = arc_known net w.0.0 arc.0 arc.1;
+        ordinal = number_below w.0.1 ordinal.0 ordinal.1;
+        offset = number_below w.0.2 offset.0 offset.1;
+        least = read.least;
+        most = read.most;
+        octets = read.each;
+      },
+      below (length seen.damages) max_damages few.0,
+    )
 
 until_said_fits : (net : Network) (streams : Streams) (seen : Seen) (words : List (List ℕ)) (s : Said) → until_said net words ≡ Ok s → SaidFits net streams seen s
 until_said_fits net streams seen words s e =
@@ -122,19 +131,23 @@ said_by_fits : (net : Network) (streams : Streams) (seen : Seen) (line : ℕ) (f
 said_by_fits net streams seen line first words =
     one_of (SaidFits net streams seen) (bytes_eq first (codes "send")) _ _ (send_said_fits net streams seen line words)
     (one_of (SaidFits net streams seen) (bytes_eq first (codes "set")) _ _ (set_said_fits net streams seen words)
+    (one_of (SaidFits net streams seen) (bytes_eq first (codes "lose")) _ _ (lose_said_fits net streams seen words)
+    (one_of (SaidFits net streams seen) (bytes_eq first (codes "damage")) _ _ (damage_said_fits net streams seen words)
     (one_of (SaidFits net streams seen) (bytes_eq first (codes "until")) _ _ (until_said_fits net streams seen words)
-    (refused (SaidFits net streams seen) word_rule)))
+    (refused (SaidFits net streams seen) word_rule)))))
 
 -- what was seen so far fits
 record SeenFits (net : Network) (streams : Streams) (seen : Seen) : Type 0 where
   sends : All (IsSend net streams) seen.sends
   sends_order : AllPairs SendsInOrder seen.sends
   sends_count : length seen.sends ≤ max_sends
-  sets : All (λ s. IsTrue (negotiates_at net s.arc.0)) seen.sets
+  sets : All (IsSet net) seen.sets
   sets_order : AllPairs SetsInOrder seen.sets
   sets_count : length seen.sets ≤ max_sets
-  losses : length seen.losses ≡ 0
-  damages : length seen.damages ≡ 0
+  losses : All (IsLoss net) seen.losses
+  losses_count : length seen.losses ≤ max_losses
+  damages : All (IsDamage net) seen.damages
+  damages_count : length seen.damages ≤ max_damages
   until : (tick : Tick) → seen.until ≡ Some tick → tick.0 ≤ horizon net
 
 nothing_fits : (net : Network) (streams : Streams) → SeenFits net streams nothing_seen
@@ -145,8 +158,10 @@ nothing_fits net streams = record {
   sets = λ k d lt. absurd (omega arith);
   sets_order = λ i j d lt past. absurd (omega arith);
   sets_count = omega arith;
-  losses = refl;
-  damages = refl;
+  losses = λ k d lt. absurd (omega arith);
+  losses_count = omega arith;
+  damages = λ k d lt. absurd (omega arith);
+  damages_count = omega arith;
   until = λ tick e. absurd cc;
 }
 
@@ -167,7 +182,9 @@ more_fits net streams seen (said.Send s) fits says =
       sets_order = fits.sets_order;
       sets_count = fits.sets_count;
       losses = fits.losses;
+      losses_count = fits.losses_count;
       damages = fits.damages;
+      damages_count = fits.damages_count;
       until = fits.until;
     }
 more_fits net streams seen (said.Set s) fits says =
@@ -176,13 +193,41 @@ more_fits net streams seen (said.Set s) fits says =
       sends = fits.sends;
       sends_order = fits.sends_order;
       sends_count = fits.sends_count;
-      sets = All-push (λ r. IsTrue (negotiates_at net r.arc.0)) seen.sets s fits.sets says.0;
+      sets = All-push (IsSet net) seen.sets s fits.sets says.0;
       sets_order = all_pairs_push SetsInOrder seen.sets s fits.sets_order (sets_before seen.sets s.tick.0 before.1);
       sets_count = omega (arith, length_push seen.sets s, says.2);
       losses = fits.losses;
+      losses_count = fits.losses_count;
       damages = fits.damages;
+      damages_count = fits.damages_count;
       until = fits.until;
     }
+more_fits net streams seen (said.Lose l) fits says = record {
+  sends = fits.sends;
+  sends_order = fits.sends_order;
+  sends_count = fits.sends_count;
+  sets = fits.sets;
+  sets_order = fits.sets_order;
+  sets_count = fits.sets_count;
+  losses = All-push (IsLoss net) seen.losses l fits.losses says.0;
+  losses_count = omega (arith, length_push seen.losses l, says.1);
+  damages = fits.damages;
+  damages_count = fits.damages_count;
+  until = fits.until;
+}
+more_fits net streams seen (said.Damage d) fits says = record {
+  sends = fits.sends;
+  sends_order = fits.sends_order;
+  sends_count = fits.sends_count;
+  sets = fits.sets;
+  sets_order = fits.sets_order;
+  sets_count = fits.sets_count;
+  losses = fits.losses;
+  losses_count = fits.losses_count;
+  damages = All-push (IsDamage net) seen.damages d fits.damages says.0;
+  damages_count = omega (arith, length_push seen.damages d, says.1);
+  until = fits.until;
+}
 more_fits net streams seen (said.Until tick) fits says = record {
   sends = fits.sends;
   sends_order = fits.sends_order;
@@ -191,7 +236,9 @@ more_fits net streams seen (said.Until tick) fits says = record {
   sets_order = fits.sets_order;
   sets_count = fits.sets_count;
   losses = fits.losses;
+  losses_count = fits.losses_count;
   damages = fits.damages;
+  damages_count = fits.damages_count;
   until = λ other e. let same : tick ≡ other = cc in subst (λ (t : Tick). t.0 ≤ horizon net) same says;
 }
 
@@ -236,7 +283,9 @@ until_fits net streams count seen (Some tick) script fits is e =
       sets_order = fits.sets_order;
       sets_count = fits.sets_count;
       losses = fits.losses;
+      losses_count = fits.losses_count;
       damages = fits.damages;
+      damages_count = fits.damages_count;
       until = fits.until tick is;
     })
 

@@ -1,2 +1,10 @@
 pub mod Loops
+pub mod Values
 pub mod Fitting
+pub mod Lines
+pub mod Timed
+pub mod NameWords
+pub mod Said
+pub mod Steps
+pub mod Ticks
+pub mod ReadBack

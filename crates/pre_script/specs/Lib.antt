@@ -4,3 +4,5 @@ pub mod Drafts
 pub mod Saying
 pub mod Reading
 pub mod Fits
+pub mod Text
+pub mod Same

@@ -10,7 +10,7 @@ use Rattle.pre_topo.specs.declared.arcs.Mode.TheVariants as mode
 abbrev pub word_rule : ℕ
 word_rule = 1
 
--- a number isn't a plain number
+-- a number isn't a plain number, or HEX isn't pairs of digits that spell 1 to 32 octets
 abbrev pub number_rule : ℕ
 number_rule = 2
 
@@ -56,11 +56,6 @@ abbrev pub kept : {B : Type 0} → Bool → ℕ → Result B ℕ → Result B �
 kept true rule next = next
 kept false rule next = Err rule
 
-abbrev pub is_off : Mode → Bool
-is_off mode.Off = true
-is_off mode.On = false
-is_off mode.Negotiate = false
-
 abbrev pub is_negotiate : Mode → Bool
 is_negotiate mode.Off = false
 is_negotiate mode.On = false
@@ -74,6 +69,16 @@ max_sends = 100000
 
 abbrev pub max_sets : ℕ
 max_sets = 10000
+
+abbrev pub max_losses : ℕ
+max_losses = 10000
+
+abbrev pub max_damages : ℕ
+max_damages = 10000
+
+-- the octets of a damage
+abbrev pub max_damaged : ℕ
+max_damaged = 32
 
 -- the last tick that a script may go to: earlier where links negotiate, since these send a frame each interval
 abbrev pub horizon : Network → ℕ

@@ -1,9 +1,8 @@
 -- What a line of a script says, given what the lines before it said.
-use Rattle.std.specs.Prelude.{ℕ, Bool, ◌&&◌, ◌||◌, false, List, [], ◌∷◌, length, codes, Option, Some, None, Result, Ok, Err, is_some, nat_le, nat_lt, slice_get, option_and_then, if◌then◌else◌}
-use Rattle.std.specs.List.{list_all}
+use Rattle.std.specs.Prelude.{◌≡◌, ⊤, ℕ, Bool, ◌&&◌, false, List, [], ◌∷◌, length, codes, Option, Some, None, Result, Ok, Err, nat_le, nat_lt, slice_get, if◌then◌else◌}
 use Rattle.std.specs.Option.{option_map_or}
 use Rattle.std.specs.Str.{bytes_eq}
-use Rattle.pre_text.specs.Words.{number_of}
+use Rattle.pre_text.specs.Words.{number_of, pairs_within}
 use Rattle.pre_topo.specs.declared.network.Network.{Network}
 use Rattle.pre_topo.specs.Named.{arc_named}
 use Rattle.pre_streams.specs.declared.rows.Row.{Row}
@@ -13,13 +12,21 @@ use Rattle.pre_script.specs.declared.scripts.Setting.{Setting}
 use Rattle.pre_script.specs.declared.scripts.Setting.TheVariants.{On, Off, Gone}
 use Rattle.pre_script.specs.declared.saying.Said.{Said}
 use Rattle.pre_script.specs.declared.saying.Said.TheVariants as said
-use Rattle.pre_script.specs.Rules.{given, horizon, horizon_rule, is_off, kept, max_sends, max_sets, mode_rule, name_rule, negotiates, number_rule, order_rule, size_rule, word_rule, count_rule}
+use Rattle.pre_script.specs.declared.saying.Refusal.{Refusal}
+use Rattle.pre_script.specs.declared.saying.Refusal.TheVariants.{Rule, Memory}
+use Rattle.pre_script.specs.Rules.{given, horizon, horizon_rule, kept, max_damaged, max_damages, max_losses, max_sends, max_sets, mode_rule, name_rule, negotiates, number_rule, order_rule, size_rule, word_rule, count_rule}
 use Rattle.pre_script.specs.Seen.{Seen, comes_last}
 
 abbrev pub one : List (List ℕ) → Option (List ℕ)
 one [] = None
 one (a ∷ []) = Some a
 one (a ∷ b ∷ rest) = None
+
+abbrev pub two : List (List ℕ) → Option (List ℕ × List ℕ)
+two [] = None
+two (a ∷ []) = None
+two (a ∷ b ∷ []) = Some (a, b)
+two (a ∷ b ∷ c ∷ rest) = None
 
 abbrev pub three : List (List ℕ) → Option (List ℕ × List ℕ × List ℕ)
 three [] = None
@@ -28,17 +35,13 @@ three (a ∷ b ∷ []) = None
 three (a ∷ b ∷ c ∷ []) = Some (a, b, c)
 three (a ∷ b ∷ c ∷ d ∷ rest) = None
 
--- the arc never preempts
-abbrev pub is_off_at : Network → ℕ → Bool
-is_off_at net arc = option_map_or (λ a. is_off a.mode) (slice_get net.arcs arc) false
-
--- for now a flow's route has no arc that may preempt
-abbrev pub may_be_sent : Network → Row → Bool
-may_be_sent net row = is_some row.curve || list_all (λ arc. is_off_at net arc.0) row.arcs
-
--- the row, where it may be sent
-abbrev pub sendable : Network → Streams → ℕ → Option Row
-sendable net streams stream = option_and_then (λ row. if may_be_sent net row then Some row else None) (slice_get streams.rows stream)
+abbrev pub four : List (List ℕ) → Option (List ℕ × List ℕ × List ℕ × List ℕ)
+four [] = None
+four (a ∷ []) = None
+four (a ∷ b ∷ []) = None
+four (a ∷ b ∷ c ∷ []) = None
+four (a ∷ b ∷ c ∷ d ∷ []) = Some (a, b, c, d)
+four (a ∷ b ∷ c ∷ d ∷ e ∷ rest) = None
 
 abbrev pub send_of_size : Seen → Row → ℕ → ℕ → ℕ → ℕ → Result Said ℕ
 send_of_size seen row line tick stream size =
@@ -47,19 +50,19 @@ send_of_size seen row line tick stream size =
     (kept (nat_lt (length seen.sends) max_sends) count_rule
     (Ok (said.Send (record { send = record { tick = record { 0 = tick }; stream = record { 0 = stream }; size = size }; line = line })))))
 
-abbrev pub send_of : Network → Streams → Seen → ℕ → ℕ → List ℕ → ℕ → Result Said ℕ
-send_of net streams seen line tick name size =
+abbrev pub send_of : Streams → Seen → ℕ → ℕ → List ℕ → ℕ → Result Said ℕ
+send_of streams seen line tick name size =
     given (row_named streams name) name_rule (λ stream.
-    given (sendable net streams stream) name_rule (λ row.
+    given (slice_get streams.rows stream) name_rule (λ row.
     send_of_size seen row line tick stream size))
 
 -- tick, stream and size
-abbrev pub send_said : Network → Streams → Seen → ℕ → List (List ℕ) → Result Said ℕ
-send_said net streams seen line words =
+abbrev pub send_said : Streams → Seen → ℕ → List (List ℕ) → Result Said ℕ
+send_said streams seen line words =
     given (three words) word_rule (λ w.
     given (number_of w.0) number_rule (λ tick.
     given (number_of w.2) number_rule (λ size.
-    send_of net streams seen line tick w.1 size)))
+    send_of streams seen line tick w.1 size)))
 
 abbrev pub setting_of : List ℕ → Option Setting
 setting_of word = if bytes_eq word (codes "on") then Some On else if bytes_eq word (codes "off") then Some Off else if bytes_eq word (codes "gone") then Some Gone else None
@@ -86,6 +89,30 @@ set_said net seen words =
     given (arc_named net w.1) name_rule (λ arc.
     set_of net seen tick arc w.2)))
 
+-- arc and ordinal
+abbrev pub lose_said : Network → Seen → List (List ℕ) → Result Said ℕ
+lose_said net seen words =
+    given (two words) word_rule (λ w.
+    given (number_of w.1) number_rule (λ ordinal.
+    given (arc_named net w.0) name_rule (λ arc.
+    kept (nat_lt (length seen.losses) max_losses) count_rule
+    (Ok (said.Lose (record { arc = record { 0 = arc }; ordinal = ordinal }))))))
+
+abbrev pub damage_of : Network → Seen → List ℕ → ℕ → ℕ → List ℕ → Result Said ℕ
+damage_of net seen name ordinal offset octets =
+    given (arc_named net name) name_rule (λ arc.
+    kept (nat_lt (length seen.damages) max_damages) count_rule
+    (Ok (said.Damage (record { arc = record { 0 = arc }; ordinal = ordinal; offset = offset; octets = octets }))))
+
+-- arc, ordinal, offset and octets
+abbrev pub damage_said : Network → Seen → List (List ℕ) → Result Said ℕ
+damage_said net seen words =
+    given (four words) word_rule (λ w.
+    given (number_of w.1) number_rule (λ ordinal.
+    given (number_of w.2) number_rule (λ offset.
+    given (pairs_within max_damaged w.3) number_rule (λ octets.
+    damage_of net seen w.0 ordinal offset octets))))
+
 -- the last tick
 abbrev pub until_said : Network → List (List ℕ) → Result Said ℕ
 until_said net words =
@@ -93,10 +120,20 @@ until_said net words =
     given (number_of w) number_rule (λ tick.
     kept (nat_le tick (horizon net)) horizon_rule (Ok (said.Until (record { 0 = tick })))))
 
--- the first word says what kind of line it is. Losses and damages can't be read yet
+-- the first word says what kind of line it is
 abbrev pub said_by : Network → Streams → Seen → ℕ → List ℕ → List (List ℕ) → Result Said ℕ
 said_by net streams seen line first words =
-    if bytes_eq first (codes "send") then send_said net streams seen line words
+    if bytes_eq first (codes "send") then send_said streams seen line words
     else if bytes_eq first (codes "set") then set_said net seen words
+    else if bytes_eq first (codes "lose") then lose_said net seen words
+    else if bytes_eq first (codes "damage") then damage_said net seen words
     else if bytes_eq first (codes "until") then until_said net words
     else Err word_rule
+
+-- want of memory alone may take the place of what is due
+abbrev pub SaysAs : Result Said Refusal → Result Said ℕ → Type 0
+SaysAs (Ok s) (Ok due) = s ≡ due
+SaysAs (Ok s) (Err rule) = ⊥
+SaysAs (Err (Rule rule)) (Ok due) = ⊥
+SaysAs (Err (Rule rule)) (Err due) = rule ≡ due
+SaysAs (Err Memory) due = ⊤

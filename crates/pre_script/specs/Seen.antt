@@ -23,6 +23,8 @@ nothing_seen = record { sends = []; sets = []; losses = []; damages = []; until 
 abbrev pub with_said : Seen → Said → Seen
 with_said seen (said.Send line) = record seen { sends = seen.sends ++ line ∷ [] }
 with_said seen (said.Set line) = record seen { sets = seen.sets ++ line ∷ [] }
+with_said seen (said.Lose line) = record seen { losses = seen.losses ++ line ∷ [] }
+with_said seen (said.Damage line) = record seen { damages = seen.damages ++ line ∷ [] }
 with_said seen (said.Until tick) = record seen { until = Some tick }
 
 abbrev pub are_before : List SendLine → List SetLine → ℕ → Bool

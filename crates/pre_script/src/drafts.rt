@@ -59,6 +59,8 @@ impl Draft {
                 self.sets.push(line)?;
                 self.latest = later(self.latest, line.tick);
             }
+            Said::Lose(line) => self.losses.push(line)?,
+            Said::Damage(line) => self.damages.push(line)?,
             Said::Until(tick) => self.until = Some(tick),
         }
         Ok(())

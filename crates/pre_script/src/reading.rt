@@ -1,13 +1,13 @@
-ghost use Rattle.std.specs.Prelude.{◌≡◌, ◌+◌, ◌^◌, ◌<◌, ◌∷◌, IfOk, OnOk};
+ghost use Rattle.std.specs.Prelude.{◌≡◌, ℕ, Result, ◌+◌, ◌^◌, ◌<◌, ◌∷◌, IfOk, OnOk};
 ghost use Rattle.pre_text.specs.Lines.{words_of};
 ghost use Rattle.pre_script.specs.Drafts.{seen, IsLatest};
 ghost use Rattle.pre_script.specs.Fits.{Fits};
 ghost use Rattle.pre_script.specs.Reading.{ReadsAs, LineReadsAs, after_line, is_comment, script_of, told};
-ghost use Rattle.pre_script.specs.Saying.{said_by};
+ghost use Rattle.pre_script.specs.Saying.{SaysAs, said_by};
 
 use crate::drafts::Draft;
 use crate::rules::AFTER_END;
-use crate::saying::{Said, said_by};
+use crate::saying::{Refusal, Said, said_by};
 use crate::{Script, ScriptFault};
 use pre_streams::Streams;
 use pre_text::{Line, LineWords, Lines};
@@ -16,11 +16,10 @@ use std::alloc::Global;
 
 /// The script that a text spells for this network and these streams.
 ///
-/// Each line is `send TICK STREAM SIZE`, `set TICK ARC VALUE` or, as the last one, `until TICK`, its words parted
-/// by spaces. Lines without words and those that begin with `#` are skipped, and counted. The first line with a fault
-/// is answered, and of its rules the first in the order 8, 1, 2, 3, 4, 5, 6, 9, 10.
-///
-/// For now `lose` and `damage` lines break rule 1, and a send of a flow whose route may preempt breaks rule 3.
+/// Each line is `send TICK STREAM SIZE`, `set TICK ARC VALUE`, `lose ARC ORDINAL`, `damage ARC ORDINAL OFFSET HEX` or, as
+/// the last one, `until TICK`, its words parted by spaces. HEX is 1 to 32 octets, in pairs of digits of either case.
+/// Lines without words and those that begin with `#` are skipped, and counted. The first line with a fault is answered,
+/// and of its rules the first in the order 8, 1, 2, 3, 4, 5, 6, 9, 10.
 ///
 /// # Errors
 ///
@@ -39,12 +38,13 @@ pub fn read_script(
     let mut count: u64 = 0;
     while let Some(line) = lines.next_line() {
         count = line.number;
-        read_line(&mut draft, net, streams, &line)?;
+        read_line(alloc, &mut draft, net, streams, &line)?;
     }
     draft.ended(count)
 }
 
 fn read_line(
+    alloc: Global,
     draft: &mut Draft,
     net: &Network,
     streams: &Streams,
@@ -67,7 +67,7 @@ fn read_line(
             rule: AFTER_END,
         });
     }
-    let said = said_by(draft, net, streams, line.number, first, &mut words);
+    let said = said_by(alloc, draft, net, streams, line.number, first, &mut words);
     take_up(draft, line.number, said)
 }
 
@@ -81,13 +81,14 @@ fn starts_comment(word: &[u8]) -> bool
 }
 
 /// Takes up what the line says, or answers its fault.
-fn take_up(draft: &mut Draft, line: u64, said: Result<Said, u8>) -> Result<(), ScriptFault>
+fn take_up(draft: &mut Draft, line: u64, said: Result<Said, Refusal>) -> Result<(), ScriptFault>
     requires { IsLatest draft.old }
-    ensures exact { LineReadsAs result (seen draft.new) (told line (seen draft.old) said) }
+    ensures exact { (due : Result Said ℕ) → SaysAs said due → LineReadsAs result (seen draft.new) (told line (seen draft.old) due) }
     ensures latest { OnOk result (IsLatest draft.new) }
 {
     match said {
-        Err(rule) => Err(ScriptFault::Fault { line, rule }),
+        Err(Refusal::Rule(rule)) => Err(ScriptFault::Fault { line, rule }),
+        Err(Refusal::Memory) => Err(ScriptFault::Memory),
         Ok(said) => match draft.add(said) {
             Ok(()) => Ok(()),
             Err(_) => Err(ScriptFault::Memory),

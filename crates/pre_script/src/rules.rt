@@ -1,10 +1,9 @@
 ghost use Rattle.std.specs.Prelude.{◌≡◌};
-ghost use Rattle.std.specs.List.{list_all, list_any};
-ghost use Rattle.pre_script.specs.Rules.{horizon, is_negotiate, is_off, negotiates};
-ghost use Rattle.pre_script.specs.Saying.{is_off_at, may_be_sent, negotiates_at};
+ghost use Rattle.std.specs.List.{list_any};
+ghost use Rattle.pre_script.specs.Rules.{horizon, is_negotiate, negotiates};
+ghost use Rattle.pre_script.specs.Saying.{negotiates_at};
 
 use pre_base::ArcId;
-use pre_streams::Row;
 use pre_topo::{Arc, Mode, Network};
 
 pub(crate) const WORD: u8 = 1;
@@ -31,21 +30,19 @@ pub(crate) const MAX_SENDS: usize = 100_000;
 
 pub(crate) const MAX_SETS: usize = 10_000;
 
+pub(crate) const MAX_LOSSES: usize = 10_000;
+
+pub(crate) const MAX_DAMAGES: usize = 10_000;
+
+/// The octets of a damage.
+pub(crate) const MAX_DAMAGED: usize = 32;
+
 fn is_negotiating(mode: Mode) -> bool
     ensures { result ≡ is_negotiate mode }
 {
     match mode {
         Mode::Negotiate => true,
         Mode::Off | Mode::On => false,
-    }
-}
-
-fn is_without_preemption(mode: Mode) -> bool
-    ensures { result ≡ is_off mode }
-{
-    match mode {
-        Mode::Off => true,
-        Mode::On | Mode::Negotiate => false,
     }
 }
 
@@ -75,26 +72,4 @@ pub(crate) fn is_negotiating_at(net: &Network, arc: ArcId) -> bool
         Some(arc) => is_negotiating(arc.mode),
         None => false,
     }
-}
-
-fn is_without_preemption_at(net: &Network, arc: ArcId) -> bool
-    ensures { result ≡ is_off_at net.now arc.0 }
-{
-    match net.arcs.as_slice().get(arc.0 as usize) {
-        Some(arc) => is_without_preemption(arc.mode),
-        None => false,
-    }
-}
-
-/// Whether frames of the row can be sent: for now a flow's route has no arc that may preempt.
-pub(crate) fn may_send(net: &Network, row: &Row) -> bool
-    ensures { result ≡ may_be_sent net.now row.now }
-{
-    row.curve.is_some() || has_plain_route(net, row.arcs.as_slice())
-}
-
-fn has_plain_route(net: &Network, arcs: &[ArcId]) -> bool
-    ensures { result ≡ list_all (λ arc. is_off_at net.now arc.0) arcs.now }
-{
-    arcs.iter().all(|arc| is_without_preemption_at(net, *arc))
 }

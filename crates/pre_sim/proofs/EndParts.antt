@@ -1,218 +1,208 @@
--- The ends of an arc's moment carry a legal history on.
-use Rattle.std.proofs.Common.{ℕ, ◌≡◌, ◌≢◌, ◌==◌, ◌+◌, ◌*◌, ◌<◌, ◌≤◌, true, List, [], ◌∷◌, ◌++◌, length, refl, sym, ◌∙◌, ap, arith, subst, Option, Some, None, map, filter, ◌&&◌, not}
-use Rattle.std.specs.Prelude.{slice_get, set, MatchOption, IfSome}
-use Rattle.std.specs.List.{list_any, AllByRecursion as Every}
+-- The part of an arc's ends.
+use Rattle.std.proofs.Common.{ℕ, suc, ◌≡◌, ◌+◌, ◌<◌, ◌≤◌, Bool, true, List, [], ◌∷◌, ◌++◌, length, refl, sym, ◌∙◌, ap, arith, subst, Option, Some, None}
+use Rattle.std.specs.Prelude.{slice_get, set, IsFalse, IsTrue, ◌↔◌}
+use Rattle.std.specs.List.{AllByRecursion as Every}
 use Rattle.std.proofs.lemmas.List.{append-nil}
 use Rattle.std.proofs.lemmas.List.Elements.{filter_map-append}
-use Rattle.std.proofs.Math.Path.{fun_ext}
-use Rattle.pre_rings.specs.Ports.{Port}
-use Rattle.pre_rings.specs.Stores.{HoldsAt}
-use Rattle.pre_topo.specs.declared.arcs.Arc.{Arc}
-use Rattle.pre_history.specs.Scenario.{Scenario, arc, no_arc, FrameOf}
-use Rattle.pre_history.specs.Moments.{Phase}
-use Rattle.pre_history.specs.History.{PlainEvent, History, Begin, Ended}
-use Rattle.pre_history.specs.Selected.{RingEntry, what_is, begin_on, ended_on, arrive_on, entry_on}
+use Rattle.pre_base.specs.declared.limits.TheConstants.{LEAST_FRAME}
+use Rattle.pre_topo.specs.declared.arcs.Mode.TheVariants as mode
+use Rattle.pre_rings.specs.declared.slots.FrameRef.{FrameRef}
+use Rattle.pre_rings.specs.Stores.{HoldsFrame, IsOut}
+use Rattle.pre_send.specs.Endings.{plans_end}
+use Rattle.pre_send.specs.Owned.{frames_of, frames_done}
+use Rattle.pre_history.specs.Scenario.{Scenario, arc, FrameOf}
+use Rattle.pre_history.specs.History.{PlainEvent, Begin, Ended, History}
+use Rattle.pre_history.specs.Moments.{Phase, moments}
+use Rattle.pre_history.specs.Placed.{number, moment_of}
+use Rattle.pre_history.specs.Selected.{begin_on, ended_on, arrive_on, entry_on}
 use Rattle.pre_history.specs.Queries.{Begins, Ends, Arrivals, Entries}
-use Rattle.pre_history.specs.Rules.{HappensIn, last_four}
-use Rattle.pre_history.specs.Placed.{number, AllBefore}
-use Rattle.pre_history.specs.Ordered.{IsOrdered, HaveSizes}
-use Rattle.pre_history.specs.Legal.{LegalUpTo}
+use Rattle.pre_history.specs.Octets.{WholeOf, SentOctets}
+use Rattle.pre_history.specs.Rules.{HappensIn}
+use Rattle.pre_history.specs.Legal.{LegalUpTo, LegalBefore}
+use Rattle.pre_history.proofs.Moments.{ends_place}
 use Rattle.pre_history.proofs.Undamaged.{length-FrameOf}
 use Rattle.pre_bridge.specs.Inside.{Entry}
-use Rattle.pre_sim.specs.declared.lanes.Sending.{Sending}
-use Rattle.pre_sim.specs.declared.lanes.Flight.{Flight}
+use Rattle.pre_outgoing.specs.declared.outgoing.Outgoing.{Outgoing}
+use Rattle.pre_outgoing.specs.declared.outgoing.Finished.{Finished}
+use Rattle.pre_outgoing.specs.Sends.{Sends, Leaves, HasEnded, AreStored, AreHeld}
+use Rattle.pre_incoming.specs.declared.wires.OnWire.{OnWire}
+use Rattle.pre_incoming.specs.Wires.{IsOnWire, Receives}
+use Rattle.pre_incoming.proofs.Goings.{elsewhere}
+use Rattle.pre_links.specs.Listening.{Hears}
+use Rattle.pre_links.specs.Standing.{LinkStands}
+use Rattle.pre_links.proofs.Phases.{still_hears}
 use Rattle.pre_sim.specs.declared.lanes.Lane.{Lane}
-use Rattle.pre_sim.specs.Keeps.{Store, IsUnderWay, LaneKeeps, KeepsOn}
-use Rattle.pre_sim.specs.Lanes.{Ends as EndsNow, IsQuiet}
-use Rattle.pre_sim.specs.Parts.{LegalAt, IsFront, LanePart, LaneFront}
-use Rattle.pre_sim.specs.Stands.{has_begun, StillWaiting, IsSent, IsLane, AreInside, LaneStands}
-use Rattle.pre_sim.proofs.Keeping.{keep_same, keep_ended}
-use Rattle.pre_sim.proofs.Lists.{read_at}
-use Rattle.pre_sim.proofs.Moments.{one_more, whole_front, ends_place, ends_early, begins_on}
-use Rattle.pre_sim.proofs.Ending.{none_ends, not_yet, ends_now, ended_lane}
+use Rattle.pre_sim.specs.declared.ends.Leaving.{Leaving}
+use Rattle.pre_sim.specs.Ending.{IsLeaving, without}
+use Rattle.pre_sim.specs.Keeps.{Store, LaneKeeps, IsUnderWay, KeepsOn}
+use Rattle.pre_sim.specs.Stages.{set_up, stage_at}
+use Rattle.pre_sim.specs.Stands.{AreRings, AreInside, LaneStands}
+use Rattle.pre_sim.specs.Parts.{Before, After, LegalAt, IsFront, LanePart, LaneFront}
+use Rattle.pre_sim.proofs.Keeping.{keep_same, keep_lane, keep_ended}
+use Rattle.pre_sim.proofs.Lists.{every_weaker, within}
 use Rattle.pre_sim.proofs.NumberTests.{is_eq}
+use Rattle.pre_sim.proofs.Others.{same_rings}
+use Rattle.pre_sim.proofs.StageTests.{is_set_up}
 
--- what is known of legal histories
-pub record Laws : Type 0 where
-  pub order : (w : Scenario) (n : ℕ) (h : History) (a : ℕ) → a < length w.net.arcs → LegalUpTo w n h → IsOrdered w h a
-  pub sizes : (w : Scenario) (n : ℕ) (h : History) (a : ℕ) → a < length w.net.arcs → LegalUpTo w n h → HaveSizes w h a
-  pub before : (w : Scenario) (n : ℕ) (h : History) → LegalUpTo w n h → AllBefore (length w.net.arcs) n h
+-- ---- the frames that a sender has
 
--- the lists may be spelled in other ways
-pub moved : (w : Scenario) (a : ℕ) (begins begins' : List Begin) (ends ends' : List Ended) (arrived arrived' : ℕ) (waits waits' : ℕ → List ℕ) (rings : Port) (sending : Option Sending) (free_from begun : ℕ) (flying : List Flight)
-    → begins ≡ begins' → ends ≡ ends' → arrived ≡ arrived' → waits ≡ waits' → IsLane w a begins ends arrived waits rings sending free_from begun flying
-    → IsLane w a begins' ends' arrived' waits' rings sending free_from begun flying
-moved w a begins begins' ends ends' arrived arrived' waits waits' rings sending free_from begun flying p q r s is =
-    let one = subst (λ bs. IsLane w a bs ends arrived waits rings sending free_from begun flying) p is in
-    let two = subst (λ es. IsLane w a begins' es arrived waits rings sending free_from begun flying) q one in
-    let three = subst (λ n. IsLane w a begins' ends' n waits rings sending free_from begun flying) r two in
-    subst (λ f. IsLane w a begins' ends' arrived' f rings sending free_from begun flying) s three
+module _ (w : Scenario) (store : Store) (a : ℕ) (lane : Lane) (keeps : LaneKeeps w store a lane) where
+  is_held : (f : FrameRef) → IsUnderWay w store a f → HoldsFrame store f
+  is_held f on =
+      let frame = on.frame in
+      (FrameOf w f.frame.0, frame.held, length-FrameOf w f.frame.0 (omega (arith, frame.long, frame.size)) ∙ sym frame.size)
 
--- what waits stays where nothing begins or enters
-pub still_same : (h es : History) (a : ℕ) → Begins (h ++ es) a ≡ Begins h a → ((p : ℕ) → Entries (h ++ es) a p ≡ Entries h a p) → StillWaiting h a ≡ StillWaiting (h ++ es) a
-unfolding StillWaiting
-still_same h es a begins entries =
-    fun_ext (λ p. sym (ap (λ (bs : List Begin). map (λ (e : RingEntry). e.frame) (filter (λ (e : RingEntry). e.entered && not (list_any (λ (b : Begin). what_is b.what e.frame && (b.from == 0)) bs)) (Entries (h ++ es) a p))) begins
-    ∙ ap (λ (xs : List RingEntry). map (λ (e : RingEntry). e.frame) (filter (λ (e : RingEntry). e.entered && not (has_begun h a e.frame)) xs)) (entries p)))
+  pub all_held : AreHeld store (frames_of lane.outgoing.sender)
+  all_held = every_weaker (IsUnderWay w store a) (HoldsFrame store) is_held (frames_of lane.outgoing.sender) keeps.sending
 
--- so do the frames inside the bridge, where besides nothing arrives
-pub inside_same : (w : Scenario) (h es : History) (a t : ℕ) (items : List Entry) → Begins (h ++ es) a ≡ Begins h a → Arrivals (h ++ es) a ≡ Arrivals h a
-    → AreInside w a (Begins h a) (Arrivals h a) t items → AreInside w a (Begins (h ++ es) a) (Arrivals (h ++ es) a) t items
-inside_same w h es a t items begins arrivals is =
-    subst (λ xs. AreInside w a (Begins (h ++ es) a) xs t items) (sym arrivals) (subst (λ bs. AreInside w a bs (Arrivals h a) t items) (sym begins) is)
+  pub all_stored : AreStored w store (frames_of lane.outgoing.sender)
+  all_stored = every_weaker (IsUnderWay w store a) _ (λ f on. on.frame.held) (frames_of lane.outgoing.sender) keeps.sending
 
--- nothing was told
-pub stays_standing : (w : Scenario) (h : History) (a t : ℕ) (lane : Lane) (items : List Entry) → LaneStands w h a t lane items → LaneStands w (h ++ []) a t lane items
-stays_standing w h a t lane items is = subst (λ g. LaneStands w g a t lane items) (sym (append-nil h)) is
+-- ---- an arc of which nothing ends
 
--- no frame came into the bridge
-pub with_no_more : (w : Scenario) (h : History) (a t : ℕ) (lane : Lane) (items : List Entry) → LaneStands w h a t lane items → LaneStands w h a t lane (items ++ [])
-with_no_more w h a t lane items is = subst (λ xs. LaneStands w h a t lane xs) (sym (append-nil items)) is
+module _ (w : Scenario) (t a : ℕ) (a_lt : a < length w.net.arcs) (old : Lane) where
+  abbrev A : ℕ
+  A = length w.net.arcs
 
--- what is being sent is a frame of the script, and no short one
-pub under_way_is : (w : Scenario) (store : Store) (a : ℕ) (lane : Lane) (s : Sending) → LaneKeeps w store a lane → lane.sending ≡ Some s → IsUnderWay w store a s
-under_way_is w store a lane s keeps at = subst (λ (o : Option Sending). IfSome o (IsUnderWay w store a)) at keeps.sending
+  its_stage : stage_at A t (1 + a) a ≡ set_up t
+  its_stage = is_set_up A t (1 + a) a (omega arith) (omega arith)
 
-pub long_enough : (w : Scenario) (store : Store) (a : ℕ) (s : Sending) → IsUnderWay w store a s → 26 ≤ s.frame.size
-long_enough w store a s is = omega (arith, is.frame.long)
+  next_stage : stage_at A t (1 + a + 1) a ≡ set_up t
+  next_stage = is_set_up A t (1 + a + 1) a (omega arith) (omega (arith, a_lt))
 
--- the octets that its slot holds are its frame's
-pub held_octets : (w : Scenario) (store : Store) (a : ℕ) (s : Sending) (octets : List ℕ) → IsUnderWay w store a s → HoldsAt store s.frame.slot octets → octets ≡ FrameOf w s.frame.frame.0
-held_octets w store a s octets is holds = let held = is.frame.held in cc (holds, held)
+  pub no_front : LaneFront w t (Phase.ends a) a None old []
+  no_front h items b = (number A t (1 + a), [], subst (λ g. LegalAt w t (1 + a) g) (sym (append-nil (h ++ []) ∙ append-nil h)) b.legal)
 
--- and they end with a check
-pub with_check : (w : Scenario) (store : Store) (a : ℕ) (s : Sending) (octets : List ℕ) → IsUnderWay w store a s → HoldsAt store s.frame.slot octets → 4 ≤ length octets
-with_check w store a s octets is holds =
-    let size = is.frame.size in
-    let low = long_enough w store a s is in
-    omega (arith, ap length (held_octets w store a s octets is holds), length-FrameOf w s.frame.frame.0 (omega (arith, size, low)), size, low)
+  -- the history goes on at the next place
+  goes : (h es : History) → LegalAt w t (1 + a) h → HappensIn w h t (Phase.ends a) es → LegalAt w t (1 + a + 1) (h ++ es)
+  goes h es legal happens =
+      subst (LegalBefore w (h ++ es)) (next A t a) (elsewhere w h es t (1 + a) (Phase.ends a) (omega (arith, a_lt)) (ends_place A a a_lt) legal happens (λ b e. absurd (cc e)))
+    where
+      next : (A t a : ℕ) → suc (number A t (1 + a)) ≡ number A t (1 + a + 1)
+      next A t a = omega arith
 
-module _ (laws : Laws) (w : Scenario) (t a : ℕ) (a_lt : a < length w.net.arcs) (store : Store) (lane : Lane) (keeps : LaneKeeps w store a lane) where
-  module _ (h : History) (items : List Entry) (legal : LegalAt w t (1 + a) h) (is : LaneStands w h a t lane items) where
-    abbrev n : ℕ
-    n = number (length w.net.arcs) t (1 + a)
-
-    order : IsOrdered w h a
-    order = laws.order w n h a a_lt legal
-
-    sizes : HaveSizes w h a
-    sizes = laws.sizes w n h a a_lt legal
-
-    on : Every (λ (b : Begin). b.arc ≡ a) (Begins h a)
-    on = begins_on (length w.net.arcs) n a h (laws.before w n h legal)
-
-    early : Every (λ (e : Ended). e.tick < t) (Ends h a)
-    early = ends_early (length w.net.arcs) t a h (laws.before w n h legal)
-
-    next : (es : History) → HappensIn w h t (Phase.ends a) es → LegalAt w t (1 + a + 1) (h ++ es)
-    next es happens = one_more w t (1 + a) (Phase.ends a) h es (omega (arith, a_lt)) (ends_place (length w.net.arcs) a a_lt) happens legal
-
-    sent_as : (o : Option Sending) → lane.sending ≡ o → MatchOption o (length (Begins h a) ≡ length (Ends h a)) (IsSent w a (Begins h a) (Ends h a))
-    sent_as o at = subst (λ (o : Option Sending). MatchOption o (length (Begins h a) ≡ length (Ends h a)) (IsSent w a (Begins h a) (Ends h a))) at is.on.sent_is
-
-    -- nothing is being sent, or what is isn't due
-    quiet : ((s : Sending) → lane.sending ≡ Some s → s.due.0 ≢ t) → HappensIn w h t (Phase.ends a) []
-    quiet later = go lane.sending refl
-      where
-        go : (o : Option Sending) → lane.sending ≡ o → HappensIn w h t (Phase.ends a) []
-        go None none = none_ends w h t a order sizes on early is.on.whole (sent_as None none)
-        go (Some s) at =
-            let under = under_way_is w store a lane s keeps at in
-            not_yet w h t a order sizes on early is.on.whole s (sent_as (Some s) at) under.frame.size (long_enough w store a s under) (later s at)
-
-    module _ (s : Sending) (at : lane.sending ≡ Some s) where
-      abbrev told : Ended
-      told = record { tick = t; arc = a; ord = s.ord; size = s.frame.size; check = last_four (FrameOf w s.frame.frame.0) }
-
-      now_ends : s.due.0 ≡ t → HappensIn w h t (Phase.ends a) (PlainEvent.ended told ∷ [])
-      now_ends due =
-          let under = under_way_is w store a lane s keeps at in
-          ends_now w h t a order sizes on early is.on.whole s (sent_as (Some s) at) under.frame.size (long_enough w store a s under) due
-
-      after : (f : Flight) → f.frame ≡ s.frame.frame → f.ord ≡ s.ord → f.due.0 ≡ t + (arc w a).delay
-          → IsLane w a (Begins (h ++ PlainEvent.ended told ∷ []) a) (Ends (h ++ PlainEvent.ended told ∷ []) a) (length (Arrivals (h ++ PlainEvent.ended told ∷ []) a)) (StillWaiting (h ++ PlainEvent.ended told ∷ []) a)
-          lane.rings None (t + 12 * (arc w a).cost) lane.begun (lane.flying.items ++ f ∷ [])
-      after f its_frame its_ord its_due =
-          let es : History = PlainEvent.ended told ∷ [] in
-          let begins : Begins (h ++ es) a ≡ Begins h a = filter_map-append (begin_on a) h es ∙ append-nil (Begins h a) in
-          let test : (a == a) ≡ true = is_eq a a refl in
-          let one : Ends es a ≡ told ∷ [] = rw test refl in
-          let ends : Ends (h ++ es) a ≡ Ends h a ++ told ∷ [] = filter_map-append (ended_on a) h es ∙ ap (λ xs. Ends h a ++ xs) one in
-          let arrivals : Arrivals (h ++ es) a ≡ Arrivals h a = filter_map-append (arrive_on a) h es ∙ append-nil (Arrivals h a) in
-          let entries : (p : ℕ) → Entries (h ++ es) a p ≡ Entries h a p = λ p. filter_map-append (entry_on a p) h es ∙ append-nil (Entries h a p) in
-          let before = subst (λ (o : Option Sending). IsLane w a (Begins h a) (Ends h a) (length (Arrivals h a)) (StillWaiting h a) lane.rings o lane.free_from.0 lane.begun lane.flying.items) at is.on in
-          moved w a (Begins h a) (Begins (h ++ es) a) (Ends h a ++ told ∷ []) (Ends (h ++ es) a) (length (Arrivals h a)) (length (Arrivals (h ++ es) a)) (StillWaiting h a) (StillWaiting (h ++ es) a)
-          lane.rings None (t + 12 * (arc w a).cost) lane.begun (lane.flying.items ++ f ∷ [])
-          (sym begins) (sym ends) (ap length (sym arrivals)) (still_same h es a begins entries)
-          (ended_lane w a t (Begins h a) (Ends h a) (length (Arrivals h a)) (StillWaiting h a) lane.rings s lane.free_from.0 lane.begun lane.flying.items told f before order.arrivals_ended order.begin_places early refl refl its_frame its_ord its_due)
-
-  -- no mPacket ends
-  pub quiet_part : (new : Lane) → IsQuiet t lane new → LanePart w t (1 + a) a 0 t store store lane new [] []
-  quiet_part new quietly = subst (λ (l : Lane). LanePart w t (1 + a) a 0 t store store lane l [] []) (sym quietly.same) (record {
+  pub quiet_part : (store : Store) → ((h : History) → LegalUpTo w (number A t (1 + a)) h → Sends w h a t true old.outgoing → HappensIn w h t (Phase.ends a) []) → LanePart w t (Phase.ends a) a None old 0 store store old [] []
+  quiet_part store none = record {
     arc = tt;
     deliveries = refl;
     drops = refl;
     here = tt;
-    legal = λ h items legal is. (next h items legal is [] (quiet h items legal is quietly.later), with_no_more w (h ++ []) a t lane items (stays_standing w h a t lane items is));
-    keeps = keep_same w a store lane;
-  })
+    goes = λ h items b.
+        let stand = subst (λ s. LaneStands w h a s old items) its_stage b.stands in
+        let happens = none h b.legal.0 stand.outgoing in
+        record {
+          happens = happens;
+          legal = goes h [] b.legal happens;
+          stands = subst (λ g. LaneStands w g a (stage_at A t (1 + a + 1) a) old (items ++ [])) (sym (append-nil h))
+              (subst (λ xs. LaneStands w h a (stage_at A t (1 + a + 1) a) old xs) (sym (append-nil items)) (subst (λ s. LaneStands w h a s old items) (sym next_stage) stand));
+        };
+    keeps = keep_same w a store old;
+  }
 
-  -- nothing was told
-  pub no_front : LaneFront w t (1 + a) a t lane []
-  no_front h items legal is = whole_front w (number (length w.net.arcs) t (1 + a)) (h ++ []) (subst (LegalUpTo w (number (length w.net.arcs) t (1 + a))) (sym (append-nil h)) legal)
+-- ---- an arc of which an mPacket ends
 
-  module _ (s : Sending) (at : lane.sending ≡ Some s) (due : s.due.0 ≡ t) (octets : List ℕ) (holds : HoldsAt store s.frame.slot octets) (check : List ℕ) (checked : check ≡ last_four octets) where
-    -- the octets are the frame's
-    octets_are : octets ≡ FrameOf w s.frame.frame.0
-    octets_are = held_octets w store a s octets (under_way_is w store a lane s keeps at) holds
+module _ (w : Scenario) (t a : ℕ) (a_lt : a < length w.net.arcs) (store : Store) (old new : Lane) (keeps : LaneKeeps w store a old) (l : Leaving) (f : Finished) (p : OnWire)
+    (leaves : IsLeaving store old.outgoing l) (due : plans_end old.outgoing.sender ≡ Some t)
+    (ends : (h : History) (e : Ended) → LegalUpTo w (number (length w.net.arcs) t (1 + a)) h → Sends w h a t true old.outgoing → AreStored w store (frames_of old.outgoing.sender)
+        → HappensIn w h t (Phase.ends a) (PlainEvent.ended e ∷ []) → HasEnded w h t a e f new.outgoing)
+    (pushed : (h : History) (e : Ended) → e.arc ≡ a → LegalUpTo w (moment_of w e.tick (Phase.ends a)) h → IsOnWire w h a p e → Receives w h a old.incoming → Receives w (h ++ PlainEvent.ended e ∷ []) a new.incoming)
+    (linked : (h : History) (e : Ended) → LegalUpTo w (moment_of w t (Phase.ends a)) h → LinkStands w h a t old.link → e.arc ≡ a → e.tick ≡ t → e.ord ≡ length (Ends h a) → length (Ends h a) < length (Begins h a)
+        → LinkStands w (h ++ PlainEvent.ended e ∷ []) a t new.link)
+    (ord : p.ord ≡ f.ord) (carries : p.what ≡ f.what) (is_last : p.is_last ≡ f.is_last) (kind : p.kind ≡ l.kind) (octets : p.octets.items ≡ l.octets.items) (its_due : p.due.0 ≡ t + (arc w a).delay)
+    (rings : new.rings ≡ old.rings) (partner : new.partner ≡ old.partner) (setting : new.setting ≡ old.setting) where
+  abbrev told : Ended
+  told = record { tick = t; arc = a; ord = f.ord; size = f.size; check = l.check }
 
-    abbrev event : PlainEvent
-    event = PlainEvent.ended (record { tick = t; arc = a; ord = s.ord; size = s.frame.size; check = last_four (FrameOf w s.frame.frame.0) })
+  -- the event by the rules
+  module _ (h : History) (items : List Entry) (b : Before w t (Phase.ends a) a None old h items) where
+    stand : LaneStands w h a (set_up t) old items
+    stand = subst (λ s. LaneStands w h a s old items) (its_stage w t a a_lt old) b.stands
 
-    abbrev told_end : PlainEvent
-    told_end = PlainEvent.ended (record { tick = t; arc = a; ord = s.ord; size = s.frame.size; check = check })
+    left : Leaves w h t a (record { kind = l.kind; mdata = leaves.mdata; check = l.check })
+    left = leaves.leaves w h t a a_lt b.legal.0 stand.outgoing (all_stored w store a old keeps) due
 
-    event_is : event ≡ told_end
-    event_is = ap (λ x. PlainEvent.ended (record { tick = t; arc = a; ord = s.ord; size = s.frame.size; check = x })) (ap last_four (sym octets_are) ∙ sym checked)
+    abbrev next : Ended
+    next = record { tick = t; arc = a; ord = length (Ends h a); size = left.size; check = l.check }
 
-    -- the events up to an end are a front
-    pub ended_front : LaneFront w t (1 + a) a t lane (told_end ∷ [])
-    ended_front h items legal is =
-        subst (λ x. IsFront w (h ++ x ∷ [])) event_is
-        (whole_front w (number (length w.net.arcs) t (1 + a + 1)) (h ++ event ∷ []) (next h items legal is (event ∷ []) (now_ends h items legal is s at due)))
+    ended : HasEnded w h t a next f new.outgoing
+    ended = ends h next b.legal.0 stand.outgoing (all_stored w store a old keeps) left.happens
 
-    module _ (link : Arc) (found : slice_get w.net.arcs a ≡ Some link) (mid new : Lane) (ends : EndsNow t lane mid s) (f : Flight)
-        (rings : new.rings ≡ mid.rings) (sending : new.sending ≡ mid.sending) (free : new.free_from.0 ≡ t + 12 * link.cost) (begun : new.begun ≡ mid.begun) (flying : new.flying.items ≡ mid.flying.items ++ f ∷ [])
-        (its_frame : f.frame ≡ s.frame.frame) (its_prio : f.prio ≡ s.frame.prio) (its_vid : f.vid ≡ s.frame.vid) (its_octets : f.octets.items ≡ octets) (its_ord : f.ord ≡ s.ord) (its_due : f.due.0 ≡ t + link.delay) (store' : Store) (back : store' ≡ set store s.frame.slot None) where
-      link_is : arc w a ≡ link
-      link_is = read_at w.net.arcs a link no_arc found
+    told_is : next ≡ told
+    told_is = λ i. record { tick = t; arc = a; ord = sym ended.ord i; size = sym ended.size i; check = l.check }
 
-      new_lane : (h : History) (items : List Entry) → LegalAt w t (1 + a) h → LaneStands w h a t lane items → LaneStands w (h ++ event ∷ []) a t new items
-      new_lane h items legal is =
-          let g = h ++ event ∷ [] in
-          let IsNew = IsLane w a (Begins g a) (Ends g a) (length (Arrivals g a)) (StillWaiting g a) in
-          let rings_are : new.rings ≡ lane.rings = rings ∙ ap (λ (l : Lane). l.rings) ends.rest in
-          let sending_is : new.sending ≡ None = sending ∙ ap (λ (l : Lane). l.sending) ends.rest in
-          let begun_is : new.begun ≡ lane.begun = begun ∙ ap (λ (l : Lane). l.begun) ends.rest in
-          let flying_are : new.flying.items ≡ lane.flying.items ++ f ∷ [] = flying ∙ ap (λ (l : Lane). l.flying.items ++ f ∷ []) ends.rest in
-          let free_is : new.free_from.0 ≡ t + 12 * (arc w a).cost = free ∙ ap (λ (l : Arc). t + 12 * l.cost) (sym link_is) in
-          let then = after h items legal is s at f its_frame its_ord (its_due ∙ ap (λ (l : Arc). t + l.delay) (sym link_is)) in
-          let one = subst (λ (r : Port). IsNew r None (t + 12 * (arc w a).cost) lane.begun (lane.flying.items ++ f ∷ [])) (sym rings_are) then in
-          let two = subst (λ (o : Option Sending). IsNew new.rings o (t + 12 * (arc w a).cost) lane.begun (lane.flying.items ++ f ∷ [])) (sym sending_is) one in
-          let three = subst (λ n. IsNew new.rings new.sending n lane.begun (lane.flying.items ++ f ∷ [])) (sym free_is) two in
-          let four = subst (λ n. IsNew new.rings new.sending new.free_from.0 n (lane.flying.items ++ f ∷ [])) (sym begun_is) three in
-          record {
-            on = subst (IsNew new.rings new.sending new.free_from.0 new.begun) (sym flying_are) four;
-            inside = inside_same w h (event ∷ []) a t items (filter_map-append (begin_on a) h (event ∷ []) ∙ append-nil (Begins h a)) (filter_map-append (arrive_on a) h (event ∷ []) ∙ append-nil (Arrivals h a)) is.inside;
-          }
+    same_begin : ended.begin ≡ left.begin
+    same_begin = cc (ended.newest, left.newest)
 
-      pub ended_part : LanePart w t (1 + a) a 0 t store store' lane new [] (told_end ∷ [])
-      ended_part = record {
-        arc = (refl, tt);
-        deliveries = refl;
-        drops = refl;
-        here = tt;
-        legal = λ h items legal is. subst (λ e. LegalAt w t (1 + a + 1) (h ++ e ∷ []) × LaneStands w (h ++ e ∷ []) a t new (items ++ [])) event_is
-            (next h items legal is (event ∷ []) (now_ends h items legal is s at due), with_no_more w (h ++ event ∷ []) a t new items (new_lane h items legal is));
-        keeps = subst (λ (x : Store). KeepsOn w a store x lane new []) (sym back) (keep_ended w a t store lane mid new s f ends rings sending flying its_frame its_prio its_vid (subst (λ xs. HoldsAt store s.frame.slot xs) (sym its_octets) holds));
-      }
+    on_wire : IsOnWire w h a p next
+    on_wire = record {
+      begin = ended.begin;
+      begun = ended.newest;
+      its_ord = ord ∙ ended.ord;
+      kind = kind ∙ (left.kind ∙ sym (ap (λ (x : Begin). x.kind) same_begin));
+      carries = carries ∙ ended.carries;
+      is_last = subst (λ (x : Bool). IsTrue x ↔ (ended.begin.from + left.size ≡ length (WholeOf w h ended.begin))) (sym is_last) ended.last;
+      octets = octets ∙ (leaves.octets ∙ (left.sent ∙ ap (λ (x : Begin). SentOctets w h x next) (sym same_begin)));
+      due = its_due;
+    }
+
+    happens : HappensIn w h t (Phase.ends a) (PlainEvent.ended told ∷ [])
+    happens = subst (λ e. HappensIn w h t (Phase.ends a) (PlainEvent.ended e ∷ [])) told_is left.happens
+
+    abbrev after : History
+    after = h ++ PlainEvent.ended told ∷ []
+
+    begins : Begins after a ≡ Begins h a
+    begins = filter_map-append (begin_on a) h (PlainEvent.ended told ∷ []) ∙ append-nil (Begins h a)
+
+    arrivals : Arrivals after a ≡ Arrivals h a
+    arrivals = filter_map-append (arrive_on a) h (PlainEvent.ended told ∷ []) ∙ append-nil (Arrivals h a)
+
+    entries : (q : ℕ) → Entries after a q ≡ Entries h a q
+    entries q = filter_map-append (entry_on a q) h (PlainEvent.ended told ∷ []) ∙ append-nil (Entries h a q)
+
+    now : LaneStands w after a (set_up t) new (items ++ [])
+    now = record {
+      rings = subst (AreRings w after a) (sym rings) (same_rings w h (PlainEvent.ended told ∷ []) a old begins entries stand.rings);
+      outgoing = subst (λ e. Sends w (h ++ PlainEvent.ended e ∷ []) a t true new.outgoing) told_is ended.sends;
+      incoming = subst (λ e. Receives w (h ++ PlainEvent.ended e ∷ []) a new.incoming) told_is (pushed h next refl b.legal.0 on_wire stand.incoming);
+      partner = subst (Hears w after a) (sym partner) (still_hears w t (Phase.ends a) h (PlainEvent.ended told ∷ []) a a_lt (a_lt, refl) b.legal.0 happens old.partner (omega (arith, a_lt)) stand.partner);
+      setting = setting ∙ stand.setting;
+      link = λ negotiates. subst (λ e. LinkStands w (h ++ PlainEvent.ended e ∷ []) a t new.link) told_is
+          (linked h next b.legal.0 (stand.link negotiates) refl refl refl (within (Begins h a) (length (Ends h a)) left.begin left.newest));
+      inside = subst (λ xs. AreInside w a (Begins after a) (Arrivals after a) t xs) (sym (append-nil items))
+          (subst (λ xs. AreInside w a (Begins after a) xs t items) (sym arrivals) (subst (λ bs. AreInside w a bs (Arrivals h a) t items) (sym begins) stand.inside));
+    }
+
+    pub done : After w t (Phase.ends a) a None old new h (items ++ []) (PlainEvent.ended told ∷ [])
+    done = record {
+      happens = happens;
+      legal = goes w t a a_lt old h (PlainEvent.ended told ∷ []) b.legal happens;
+      stands = subst (λ s. LaneStands w after a s new (items ++ [])) (sym (next_stage w t a a_lt old)) now;
+    }
+
+  keeps_on : (store' : Store) → store' ≡ without store f.done → frames_of old.outgoing.sender ≡ frames_done f.done ++ frames_of new.outgoing.sender → KeepsOn w a store store' old new []
+  keeps_on store' is frames = subst (λ s. KeepsOn w a store s old new []) (sym is) (go f.done frames)
+    where
+      go : (d : Option FrameRef) → frames_of old.outgoing.sender ≡ frames_done d ++ frames_of new.outgoing.sender → KeepsOn w a store (without store d) old new []
+      go None same = keep_lane w a store old new rings (sym same)
+      go (Some g) same = keep_ended w a store old new g rings same
+
+  pub ended_part : (store' : Store) → store' ≡ without store f.done → frames_of old.outgoing.sender ≡ frames_done f.done ++ frames_of new.outgoing.sender → LanePart w t (Phase.ends a) a None old 0 store store' new [] (PlainEvent.ended told ∷ [])
+  ended_part store' is frames = record {
+    arc = (refl, tt);
+    deliveries = refl;
+    drops = refl;
+    here = tt;
+    goes = λ h items b. done h items b;
+    keeps = keeps_on store' is frames;
+  }
+
+  pub ended_front : LaneFront w t (Phase.ends a) a None old (PlainEvent.ended told ∷ [])
+  ended_front h items b =
+      let x = done h items b in
+      (number (length w.net.arcs) t (1 + a + 1), [], subst (λ g. LegalAt w t (1 + a + 1) g) (sym (append-nil (h ++ PlainEvent.ended told ∷ []))) x.legal)
+
+-- a frame that has ended holds its slot
+pub done_is_out : (store : Store) (o : List FrameRef) (d : Option FrameRef) (rest : List FrameRef) → AreHeld store o → o ≡ frames_done d ++ rest → Every (λ (f : FrameRef). IsOut store f.slot) (frames_done d)
+done_is_out store o None rest held is = tt
+done_is_out store o (Some f) rest held is = let first = (subst (AreHeld store) is held).0 in (rw first.1 refl, tt)

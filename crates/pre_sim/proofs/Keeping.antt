@@ -1,24 +1,24 @@
 -- Each frame keeps a slot of its own, as frames come and go.
-use Rattle.std.proofs.Common.{Global, ℕ, zero, suc, ◌≡◌, ◌≢◌, ◌==◌, Bool, true, false, ◌+◌, ◌<◌, ◌≤◌, List, [], ◌∷◌, ◌++◌, length, map, drop, replicate, refl, sym, ◌∙◌, ap, arith, subst, Option, Some, None, IfSome}
-use Rattle.std.specs.Prelude.{slice_get, slice_index_or, set, Vec}
+use Rattle.std.proofs.Common.{ℕ, zero, suc, ◌≡◌, ◌≢◌, ◌==◌, Bool, true, false, ◌+◌, ◌<◌, ◌≤◌, List, [], ◌∷◌, ◌++◌, length, map, drop, replicate, refl, sym, ◌∙◌, ap, arith, subst, Option, Some, None}
+use Rattle.std.specs.Prelude.{slice_get, slice_index_or, set}
 use Rattle.std.proofs.Math.ListN.{length-set}
 use Rattle.std.proofs.lemmas.List.Folds.{sum_by-replicate}
+use Rattle.pre_base.specs.declared.limits.TheConstants.{LEAST_FRAME}
 use Rattle.pre_base.specs.declared.numbers.FrameNo.{FrameNo}
 use Rattle.std.specs.List.{sum_by, AllByRecursion as Every}
 use Rattle.std.proofs.lemmas.List.{append-nil}
 use Rattle.pre_rings.specs.declared.slots.FrameRef.{FrameRef}
 use Rattle.pre_rings.specs.Ports.{Port, IsPort, frames_at, with_frames}
-use Rattle.pre_rings.specs.Stores.{HoldsAt}
-use Rattle.pre_history.specs.Scenario.{Scenario, arc, row, send, FrameOf}
+use Rattle.pre_history.specs.Scenario.{Scenario, arc, send, FrameOf}
 use Rattle.pre_history.proofs.Undamaged.{length-FrameOf}
+use Rattle.pre_outgoing.specs.declared.outgoing.Outgoing.{Outgoing}
 use Rattle.pre_bridge.specs.Inside.{Entry}
-use Rattle.pre_sim.specs.declared.lanes.Sending.{Sending}
-use Rattle.pre_sim.specs.declared.lanes.Flight.{Flight}
 use Rattle.pre_sim.specs.declared.lanes.Lane.{Lane}
-use Rattle.pre_sim.specs.Lanes.{IsIdle, AreIdle, Ends, Arrives}
+use Rattle.pre_send.specs.Owned.{frames_of as sent_by}
+use Rattle.pre_sim.specs.Lanes.{IsIdle, AreIdle}
 use Rattle.pre_sim.specs.Choices.{LeavesFirst}
 use Rattle.pre_sim.specs.Arriving.{IsStored, in_slot}
-use Rattle.pre_sim.specs.Keeps.{Store, IsFrameOf, GoesOver, Waits, IsUnderWay, IsOnWire, IsKeptInside, LaneKeeps, Keeps, KeepsOn, among, under_way, of_lane, uses}
+use Rattle.pre_sim.specs.Keeps.{Store, IsFrameOf, GoesOver, Waits, IsUnderWay, IsKeptInside, LaneKeeps, Keeps, KeepsOn, among, of_lane, uses}
 use Rattle.pre_sim.specs.Sends.{KeepsCome}
 use Rattle.pre_sim.proofs.Lists.{every-append, every_at, headed, sum-set, sum-one, sum-none, set_here, set_elsewhere, set_same, set_cases}
 use Rattle.pre_sim.proofs.Counts.{among-here, among-other, among-cons, among-append, first_elsewhere, each_elsewhere, none_among, among_ring, none_among_rings, among_with, rings_with}
@@ -45,9 +45,8 @@ module _ (w : Scenario) where
   waits_stays store s a p o f other is = record { frame = frame_stays store s o f other is.frame; over = is.over; ring = is.ring }
 
   -- one that is being sent
-  sending_stays : (store : Store) (s a : ℕ) (o : Option (List ℕ)) (x : Option Sending) → among s (under_way x) ≡ 0 → IfSome x (IsUnderWay w store a) → IfSome x (IsUnderWay w (set store s o) a)
-  sending_stays store s a o None none is = tt
-  sending_stays store s a o (Some x) none is = record { frame = frame_stays store s o x.frame (first_elsewhere s x.frame [] none) is.frame; over = is.over }
+  sending_stays : (store : Store) (s a : ℕ) (o : Option (List ℕ)) (f : FrameRef) → f.slot ≢ s → IsUnderWay w store a f → IsUnderWay w (set store s o) a f
+  sending_stays store s a o f other is = record { frame = frame_stays store s o f other is.frame; over = is.over }
 
   -- all of a lane
   lane_stays : (store : Store) (s a : ℕ) (o : Option (List ℕ)) (lane : Lane) → of_lane s lane ≡ 0 → LaneKeeps w store a lane → LaneKeeps w (set store s o) a lane
@@ -55,8 +54,7 @@ module _ (w : Scenario) where
     eight = is.eight;
     capacities = is.capacities;
     waiting = λ p. each_elsewhere (Waits w store a p) (Waits w (set store s o) a p) s (frames_at lane.rings p) (waits_stays store s a p o) (omega (arith, among_ring s lane.rings.frames p, none)) (is.waiting p);
-    sending = sending_stays store s a o lane.sending (omega (arith, none)) is.sending;
-    flying = is.flying;
+    sending = each_elsewhere (IsUnderWay w store a) (IsUnderWay w (set store s o) a) s (sent_by lane.outgoing.sender) (sending_stays store s a o) (omega (arith, none)) is.sending;
   }
 
   -- and all inside bridges
@@ -84,15 +82,10 @@ module _ (w : Scenario) where
       let held : slice_get store s ≡ Some (Some (FrameOf w f.frame.0)) = subst (λ k. slice_get store k ≡ Some (Some (FrameOf w f.frame.0))) e is.held in
       cc (held, free)
 
-  -- none that is being sent does
-  free_sending : (store : Store) (s a : ℕ) → slice_get store s ≡ Some None → (x : Option Sending) → IfSome x (IsUnderWay w store a) → among s (under_way x) ≡ 0
-  free_sending store s a free None is = refl
-  free_sending store s a free (Some x) is = among-other s x.frame [] (frame_elsewhere store s free x.frame is.frame)
-
   -- none of a lane
   free_lane : (store : Store) (s a : ℕ) → slice_get store s ≡ Some None → (lane : Lane) → LaneKeeps w store a lane → of_lane s lane ≡ 0
   free_lane store s a free lane is =
-      omega (arith, none_among_rings (Waits w store a) s lane.rings.frames (λ p f waits. frame_elsewhere store s free f waits.frame) is.waiting, free_sending store s a free lane.sending is.sending)
+      omega (arith, none_among_rings (Waits w store a) s lane.rings.frames (λ p f waits. frame_elsewhere store s free f waits.frame) is.waiting, none_among (IsUnderWay w store a) s (sent_by lane.outgoing.sender) (λ f under. frame_elsewhere store s free f under.frame) is.sending)
 
   -- none inside a bridge
   free_inside : (store : Store) (s : ℕ) → slice_get store s ≡ Some None → (entries : List Entry) → Every (IsKeptInside w store) entries → among s (frames_of entries) ≡ 0
@@ -128,8 +121,8 @@ module _ (w : Scenario) where
   -- ---- what a lane keeps
 
   -- with other frames in one ring
-  lane_ring : (store : Store) (a p : ℕ) (fs : List FrameRef) (old new : Lane) → new.rings ≡ with_frames old.rings p fs → Every (Waits w store a p) fs → IfSome new.sending (IsUnderWay w store a) → new.flying ≡ old.flying → LaneKeeps w store a old → LaneKeeps w store a new
-  lane_ring store a p fs old new rings waits sends flying was =
+  lane_ring : (store : Store) (a p : ℕ) (fs : List FrameRef) (old new : Lane) → new.rings ≡ with_frames old.rings p fs → Every (Waits w store a p) fs → Every (IsUnderWay w store a) (sent_by new.outgoing.sender) → LaneKeeps w store a old → LaneKeeps w store a new
+  lane_ring store a p fs old new rings waits sends was =
       let same = sym rings in
       let long : length (set old.rings.frames p fs) ≡ 8 = length-set old.rings.frames p fs ∙ was.eight.0 in
       record {
@@ -137,52 +130,37 @@ module _ (w : Scenario) where
         capacities = ap (λ (r : Port). r.capacities) rings ∙ was.capacities;
         waiting = λ q. subst (λ (r : Port). Every (Waits w store a q) (frames_at r q)) same (rings_with (Waits w store a) old.rings.frames p fs was.waiting waits q);
         sending = sends;
-        flying = subst (λ (v : Vec Flight Global). Every (IsOnWire w a) v.items) (sym flying) was.flying;
       }
 
   -- with the same rings
-  lane_same : (store : Store) (a : ℕ) (old new : Lane) → new.rings ≡ old.rings → IfSome new.sending (IsUnderWay w store a) → Every (IsOnWire w a) new.flying.items → LaneKeeps w store a old → LaneKeeps w store a new
-  lane_same store a old new rings sends flies was =
+  lane_same : (store : Store) (a : ℕ) (old new : Lane) → new.rings ≡ old.rings → Every (IsUnderWay w store a) (sent_by new.outgoing.sender) → LaneKeeps w store a old → LaneKeeps w store a new
+  lane_same store a old new rings sends was =
       let same = sym rings in
       record {
         eight = subst IsPort same was.eight;
         capacities = ap (λ (r : Port). r.capacities) rings ∙ was.capacities;
         waiting = λ q. subst (λ (r : Port). Every (Waits w store a q) (frames_at r q)) same (was.waiting q);
         sending = sends;
-        flying = flies;
       }
 
   -- what stands there, by what it has
-  lane_has : (s : ℕ) (lane : Lane) (rings : Port) (sending : Option Sending) → lane.rings ≡ rings → lane.sending ≡ sending → of_lane s lane ≡ sum_by (among s) rings.frames + among s (under_way sending)
-  lane_has s lane rings sending has sends = ap (λ (r : Port). sum_by (among s) r.frames + among s (under_way lane.sending)) has ∙ ap (λ o. sum_by (among s) rings.frames + among s (under_way o)) sends
+  lane_has : (s : ℕ) (lane : Lane) (rings : Port) (sending : List FrameRef) → lane.rings ≡ rings → sent_by lane.outgoing.sender ≡ sending → of_lane s lane ≡ sum_by (among s) rings.frames + among s sending
+  lane_has s lane rings sending has sends = ap (λ (r : Port). sum_by (among s) r.frames + among s (sent_by lane.outgoing.sender)) has ∙ ap (λ fs. sum_by (among s) rings.frames + among s fs) sends
 
-  -- the frame that was being sent is on the wire
-  on_wire : (store : Store) (a : ℕ) (s : Sending) (f : Flight) → f.frame ≡ s.frame.frame → f.prio ≡ s.frame.prio → f.vid ≡ s.frame.vid → HoldsAt store s.frame.slot f.octets.items → IsUnderWay w store a s → IsOnWire w a f
-  on_wire store a s f frame prio vid holds is =
-      let back = sym frame in
-      let octets : f.octets.items ≡ FrameOf w s.frame.frame.0 = cc (holds, is.frame.held) in
-      record {
-        known = subst (λ (n : FrameNo). n.0 < length w.script.sends) back is.frame.known;
-        prio = prio ∙ (is.frame.prio ∙ ap (λ (n : FrameNo). (row w n.0).prio) back);
-        vid = vid ∙ (is.frame.vid ∙ ap (λ (n : FrameNo). (row w n.0).vid) back);
-        octets = octets ∙ ap (λ (n : FrameNo). FrameOf w n.0) back;
-        long = subst (λ (n : FrameNo). 64 ≤ (send w n.0).send.size) back (subst (λ n. 64 ≤ n) is.frame.size is.frame.long);
-        over = subst (λ (n : FrameNo). GoesOver w n a) back is.over;
-      }
-
-  -- what was on the wire is inside the bridge
-  from_wire : (a slot : ℕ) (f : Flight) (store : Store) → slice_get store slot ≡ Some None → IsOnWire w a f → IsFrameOf w (set store slot (Some f.octets.items)) (in_slot f slot)
-  from_wire a slot f store free is = record {
-    known = is.known;
-    prio = is.prio;
-    vid = is.vid;
+  -- a frame of the script, in a slot that was in
+  from_script : (slot : ℕ) (f : FrameNo) (store : Store) → slice_get store slot ≡ Some None → f.0 < length w.script.sends → LEAST_FRAME ≤ (send w f.0).send.size
+      → IsFrameOf w (set store slot (Some (FrameOf w f.0))) (in_slot w f slot)
+  from_script slot f store free known long = record {
+    known = known;
+    prio = refl;
+    vid = refl;
     size = its_size;
-    long = subst (λ n. 64 ≤ n) (sym its_size) is.long;
-    held = set_here store slot None (Some f.octets.items) free ∙ ap (λ xs. Some (Some xs)) is.octets;
+    long = subst (λ n. LEAST_FRAME ≤ n) (sym its_size) long;
+    held = set_here store slot None (Some (FrameOf w f.0)) free;
   }
     where
-      its_size : length f.octets.items ≡ (send w f.frame.0).send.size
-      its_size = ap length is.octets ∙ length-FrameOf w f.frame.0 (omega (arith, is.long))
+      its_size : length (FrameOf w f.0) ≡ (send w f.0).send.size
+      its_size = length-FrameOf w f.0 (omega (arith, long))
 
   -- ---- one more
 
@@ -217,14 +195,6 @@ module _ (w : Scenario) where
   into_slot store store' octets slot lanes entries stored is =
       subst (λ k. Keeps w k lanes entries []) (sym stored.1) (all_stays store slot (Some octets) lanes entries [] (all_elsewhere store slot lanes entries [] stored.0 is) is)
 
-  -- the first of those on the wire is there no more
-  off_wire : (a t : ℕ) (store : Store) (old new : Lane) (f : Flight) → Arrives t old new f → (lanes : List Lane) (entries : List Entry) → slice_get lanes a ≡ Some old → Keeps w store lanes entries [] → Keeps w store (set lanes a new) entries []
-  off_wire a t store old new f arrives lanes entries at is =
-      let was = is.each_lane a old at in
-      let flew : Every (IsOnWire w a) (f ∷ drop 1 old.flying.items) = subst (Every (IsOnWire w a)) (headed old.flying.items f arrives.was) was.flying in
-      let lane = lane_same store a old new arrives.rings (subst (λ o. IfSome o (IsUnderWay w store a)) (sym arrives.sending) was.sending) (subst (Every (IsOnWire w a)) (sym arrives.rest) flew.1) was in
-      all_with store lanes a old new entries [] [] at lane tt (λ s. omega (arith, lane_has s new old.rings old.sending arrives.rings arrives.sending)) is
-
   -- one of those inside, taken out
   taken_out : (P : Entry → Type 0) (before behind : List Entry) (e : Entry) → Every P (before ++ e ∷ behind) → P e × Every P (before ++ behind)
   taken_out P [] behind e all = all
@@ -237,20 +207,19 @@ module _ (w : Scenario) where
   empty_ring P (suc n) (suc p) = empty_ring P n p
 
   -- a lane at rest
-  idle_keeps : (store : Store) (a : ℕ) (lane : Lane) → IsIdle (arc w a).rings lane → LaneKeeps w store a lane
+  idle_keeps : (store : Store) (a : ℕ) (lane : Lane) → IsIdle w.net.timing (arc w a) lane → LaneKeeps w store a lane
   idle_keeps store a lane is =
       let same = sym is.rings in
       record {
         eight = subst IsPort same (refl, is.eight);
         capacities = ap (λ (r : Port). r.capacities) is.rings;
         waiting = λ p. subst (λ (r : Port). Every (Waits w store a p) (frames_at r p)) same (empty_ring (Waits w store a p) 8 p);
-        sending = subst (λ o. IfSome o (IsUnderWay w store a)) (sym is.sending) tt;
-        flying = subst (Every (IsOnWire w a)) (sym is.flying) tt;
+        sending = subst (Every (IsUnderWay w store a)) (sym is.sending) tt;
       }
 
   -- which has no frame
-  idle_has : (s a : ℕ) (lane : Lane) → IsIdle (arc w a).rings lane → of_lane s lane ≡ 0
-  idle_has s a lane is = omega (arith, lane_has s lane _ None is.rings is.sending, sum_by-replicate (among s) 8 [])
+  idle_has : (s a : ℕ) (lane : Lane) → IsIdle w.net.timing (arc w a) lane → of_lane s lane ≡ 0
+  idle_has s a lane is = omega (arith, lane_has s lane _ [] is.rings is.sending, sum_by-replicate (among s) 8 [])
 
   -- ---- from one to the next
 
@@ -258,82 +227,88 @@ module _ (w : Scenario) where
   pub keep_same : (a : ℕ) (store : Store) (lane : Lane) → KeepsOn w a store store lane lane []
   keep_same a store lane = λ lanes entries at is. subst (λ ls. Keeps w store ls (entries ++ []) []) (sym (set_same lanes a lane at)) (no_more store lanes entries is)
 
-  -- an mPacket ended: its octets are on the wire, and its slot is in again
-  pub keep_ended : (a t : ℕ) (store : Store) (old mid new : Lane) (s : Sending) (f : Flight) → Ends t old mid s → new.rings ≡ mid.rings → new.sending ≡ mid.sending → new.flying.items ≡ mid.flying.items ++ f ∷ []
-      → f.frame ≡ s.frame.frame → f.prio ≡ s.frame.prio → f.vid ≡ s.frame.vid → HoldsAt store s.frame.slot f.octets.items → KeepsOn w a store (set store s.frame.slot None) old new []
-  keep_ended a t store old mid new s f ends rings sending flying frame prio vid holds =
+  -- nor does it where the frames of rings and sender stay
+  pub keep_lane : (a : ℕ) (store : Store) (old new : Lane) → new.rings ≡ old.rings → sent_by new.outgoing.sender ≡ sent_by old.outgoing.sender → KeepsOn w a store store old new []
+  keep_lane a store old new rings sends =
       λ lanes entries at is.
-      let sends : new.sending ≡ None = sending ∙ ap (λ (l : Lane). l.sending) ends.rest in
-      let its_rings : new.rings ≡ old.rings = rings ∙ ap (λ (l : Lane). l.rings) ends.rest in
-      let flies : new.flying.items ≡ old.flying.items ++ f ∷ [] = flying ∙ ap (λ (l : Lane). l.flying.items ++ f ∷ []) ends.rest in
       let was = is.each_lane a old at in
-      let going : IsUnderWay w store a s = subst (λ o. IfSome o (IsUnderWay w store a)) ends.was was.sending in
-      let all : Every (IsOnWire w a) (old.flying.items ++ f ∷ []) = every-append (IsOnWire w a) old.flying.items (f ∷ []) was.flying (on_wire store a s f frame prio vid holds going, tt) in
-      let lane = lane_same store a old new its_rings (subst (λ o. IfSome o (IsUnderWay w store a)) (sym sends) tt) (subst (Every (IsOnWire w a)) (sym flies) all) was in
-      let k = s.frame.slot in
-      let kept = all_with store lanes a old new entries [] [] at lane tt (λ n. omega (arith, lane_has n new old.rings None its_rings sends)) is in
-      let free : uses (set lanes a new) entries [] k ≡ 0 = omega (arith, uses_with lanes a old new entries entries [] [] k at, is.once k, lane_has k new old.rings None its_rings sends, lane_has k old old.rings (Some s) refl ends.was, among-here k s.frame [] refl) in
+      let lane = lane_same store a old new rings (subst (Every (IsUnderWay w store a)) (sym sends) was.sending) was in
+      no_more store (set lanes a new) entries
+      (all_with store lanes a old new entries [] [] at lane tt (λ n. omega (arith, lane_has n new old.rings (sent_by old.outgoing.sender) rings sends)) is)
+
+  -- an mPacket ended a frame, whose slot is in again
+  pub keep_ended : (a : ℕ) (store : Store) (old new : Lane) (f : FrameRef) → new.rings ≡ old.rings → sent_by old.outgoing.sender ≡ f ∷ sent_by new.outgoing.sender → KeepsOn w a store (set store f.slot None) old new []
+  keep_ended a store old new f rings sends =
+      λ lanes entries at is.
+      let was = is.each_lane a old at in
+      let sent : Every (IsUnderWay w store a) (f ∷ sent_by new.outgoing.sender) = subst (Every (IsUnderWay w store a)) sends was.sending in
+      let lane = lane_same store a old new rings sent.1 was in
+      let k = f.slot in
+      let counts : (n : ℕ) → of_lane n old ≡ sum_by (among n) old.rings.frames + (among n (f ∷ []) + among n (sent_by new.outgoing.sender))
+      = λ n. lane_has n old old.rings (f ∷ sent_by new.outgoing.sender) refl sends ∙ ap (λ m. sum_by (among n) old.rings.frames + m) (among-cons n f (sent_by new.outgoing.sender)) in
+      let kept = all_with store lanes a old new entries [] [] at lane tt (λ n. omega (arith, lane_has n new old.rings (sent_by new.outgoing.sender) rings refl, counts n)) is in
+      let free : uses (set lanes a new) entries [] k ≡ 0 = omega (arith, uses_with lanes a old new entries entries [] [] k at, is.once k, lane_has k new old.rings (sent_by new.outgoing.sender) rings refl, counts k, among-here k f [] refl) in
       no_more (set store k None) (set lanes a new) entries (all_stays store k None (set lanes a new) entries [] free kept)
 
-  -- a frame begins
-  pub keep_started : (a least : ℕ) (store : Store) (old new : Lane) (s : Sending) → old.sending ≡ None → LeavesFirst least old.rings new.rings s.frame → new.sending ≡ Some s → new.flying ≡ old.flying → KeepsOn w a store store old new []
-  keep_started a least store old new s idle leaves sending flying =
+  -- a frame that waited begins
+  pub keep_started : (a least greatest : ℕ) (store : Store) (old new : Lane) (f : FrameRef) → greatest ≤ 7 → LeavesFirst least greatest old.rings new.rings f → sent_by new.outgoing.sender ≡ f ∷ sent_by old.outgoing.sender → KeepsOn w a store store old new []
+  keep_started a least greatest store old new f few leaves sends =
       λ lanes entries at is.
       let was = is.each_lane a old at in
       let p = leaves.prio in
-      let waited : Every (Waits w store a p) (s.frame ∷ leaves.behind) = subst (Every (Waits w store a p)) leaves.front (was.waiting p) in
-      let going : IsUnderWay w store a s = record { frame = waited.0.frame; over = waited.0.over } in
-      let lane = lane_ring store a p leaves.behind old new leaves.left waited.1 (subst (λ o. IfSome o (IsUnderWay w store a)) (sym sending) going) flying was in
-      let below : p < length old.rings.frames = omega (arith, leaves.most, was.eight.0) in
+      let waited : Every (Waits w store a p) (f ∷ leaves.behind) = subst (Every (Waits w store a p)) leaves.front (was.waiting p) in
+      let going : IsUnderWay w store a f = record { frame = waited.0.frame; over = waited.0.over } in
+      let lane = lane_ring store a p leaves.behind old new leaves.left waited.1 (subst (Every (IsUnderWay w store a)) (sym sends) (going, was.sending)) was in
+      let below : p < length old.rings.frames = omega (arith, leaves.most, few, was.eight.0) in
       no_more store (set lanes a new) entries
       (all_with store lanes a old new entries [] [] at lane tt
-      (λ n. omega (arith, lane_has n new _ (Some s) leaves.left sending, lane_has n old old.rings None refl idle, among_with n old.rings.frames p leaves.behind below, ap (among n) leaves.front, among-cons n s.frame leaves.behind))
+      (λ n. omega (arith, lane_has n new _ (f ∷ sent_by old.outgoing.sender) leaves.left sends, among-cons n f (sent_by old.outgoing.sender), lane_has n old old.rings (sent_by old.outgoing.sender) refl refl, among_with n old.rings.frames p leaves.behind below, ap (among n) leaves.front, among-cons n f leaves.behind))
       is)
 
   -- a frame arrived and goes on: it is inside the bridge, in a slot that was in
-  pub keep_arrived : (a t : ℕ) (store store' : Store) (old new : Lane) (f : Flight) (slot : ℕ) (e : Entry) → Arrives t old new f → IsStored store f.octets.items slot store' → e.frame ≡ in_slot f slot → GoesOver w f.frame e.next.0
+  pub keep_arrived : (a : ℕ) (store store' : Store) (old new : Lane) (f : FrameNo) (slot : ℕ) (e : Entry) → new.rings ≡ old.rings → sent_by new.outgoing.sender ≡ sent_by old.outgoing.sender
+      → f.0 < length w.script.sends → LEAST_FRAME ≤ (send w f.0).send.size → IsStored store (FrameOf w f.0) slot store' → e.frame ≡ in_slot w f slot → GoesOver w f e.next.0
       → KeepsOn w a store store' old new (e ∷ [])
-  keep_arrived a t store store' old new f slot e arrives stored its onto =
+  keep_arrived a store store' old new f slot e rings sends known long stored its onto =
       λ lanes entries at is.
-      let wire : IsOnWire w a f = every_at (IsOnWire w a) old.flying.items 0 f (is.each_lane a old at).flying arrives.was in
-      let off = off_wire a t store old new f arrives lanes entries at is in
-      let kept = into_slot store store' f.octets.items slot (set lanes a new) entries stored off in
+      let was = is.each_lane a old at in
+      let lane = lane_same store a old new rings (subst (Every (IsUnderWay w store a)) (sym sends) was.sending) was in
+      let off = all_with store lanes a old new entries [] [] at lane tt (λ n. omega (arith, lane_has n new old.rings (sent_by old.outgoing.sender) rings sends)) is in
+      let kept = into_slot store store' (FrameOf w f.0) slot (set lanes a new) entries stored off in
       let right : IsKeptInside w store' e = record {
-        frame = subst (λ k. IsFrameOf w k e.frame) (sym stored.1) (subst (IsFrameOf w (set store slot (Some f.octets.items))) (sym its) (from_wire a slot f store stored.0 wire));
+        frame = subst (λ k. IsFrameOf w k e.frame) (sym stored.1) (subst (IsFrameOf w (set store slot (Some (FrameOf w f.0)))) (sym its) (from_script slot f store stored.0 known long));
         onto = subst (λ (g : FrameRef). GoesOver w g.frame e.next.0) (sym its) onto;
       } in
       let free : uses (set lanes a new) entries [] e.frame.slot ≡ 0 = subst (λ (g : FrameRef). uses (set lanes a new) entries [] g.slot ≡ 0) (sym its) (all_elsewhere store slot (set lanes a new) entries [] stored.0 off) in
       one_inside store' (set lanes a new) entries e right free kept
 
-  -- a frame arrived and was delivered
-  pub keep_delivered : (a t : ℕ) (store : Store) (old new : Lane) (f : Flight) → Arrives t old new f → KeepsOn w a store store old new []
-  keep_delivered a t store old new f arrives = λ lanes entries at is. no_more store (set lanes a new) entries (off_wire a t store old new f arrives lanes entries at is)
-
   -- a frame enters its ring
   pub keep_entered : (a : ℕ) (f : FrameRef) (store : Store) (lanes : List Lane) (old new : Lane) → slice_get lanes a ≡ Some old → GoesOver w f.frame a → f.prio < 8 → new.rings ≡ with_frames old.rings f.prio (frames_at old.rings f.prio ++ f ∷ [])
-      → new.sending ≡ old.sending → new.flying ≡ old.flying → KeepsCome w store store lanes (set lanes a new) f
-  keep_entered a f store lanes old new here over below rings sending flying =
+      → new.outgoing ≡ old.outgoing → KeepsCome w store store lanes (set lanes a new) f
+  keep_entered a f store lanes old new here over below rings sending =
       λ entries is.
       let was = is.each_lane a old here in
       let p = f.prio in
+      let sends : sent_by new.outgoing.sender ≡ sent_by old.outgoing.sender = ap (λ (o : Outgoing). sent_by o.sender) sending in
       let waits : Waits w store a p f = record { frame = is.each_moving.0; over = over; ring = refl } in
       let all : Every (Waits w store a p) (frames_at old.rings p ++ f ∷ []) = every-append (Waits w store a p) (frames_at old.rings p) (f ∷ []) (was.waiting p) (waits, tt) in
-      let lane = lane_ring store a p (frames_at old.rings p ++ f ∷ []) old new rings all (subst (λ o. IfSome o (IsUnderWay w store a)) (sym sending) was.sending) flying was in
+      let lane = lane_ring store a p (frames_at old.rings p ++ f ∷ []) old new rings all (subst (Every (IsUnderWay w store a)) (sym sends) was.sending) was in
       let within : p < length old.rings.frames = omega (arith, below, was.eight.0) in
       all_with store lanes a old new entries (f ∷ []) [] here lane tt
-      (λ n. omega (arith, lane_has n new _ old.sending rings sending, among_with n old.rings.frames p (frames_at old.rings p ++ f ∷ []) within, among-append n (frames_at old.rings p) (f ∷ [])))
+      (λ n. omega (arith, lane_has n new _ (sent_by old.outgoing.sender) rings sends, among_with n old.rings.frames p (frames_at old.rings p ++ f ∷ []) within, among-append n (frames_at old.rings p) (f ∷ [])))
       is
 
   -- a frame is dropped, and its slot is in again
-  pub keep_dropped : (a : ℕ) (f : FrameRef) (store : Store) (lanes : List Lane) (old new : Lane) → slice_get lanes a ≡ Some old → new.rings ≡ old.rings → new.sending ≡ old.sending → new.flying ≡ old.flying
+  pub keep_dropped : (a : ℕ) (f : FrameRef) (store : Store) (lanes : List Lane) (old new : Lane) → slice_get lanes a ≡ Some old → new.rings ≡ old.rings → new.outgoing ≡ old.outgoing
       → KeepsCome w store (set store f.slot None) lanes (set lanes a new) f
-  keep_dropped a f store lanes old new here rings sending flying =
+  keep_dropped a f store lanes old new here rings sending =
       λ entries is.
       let was = is.each_lane a old here in
       let k = f.slot in
-      let lane = lane_same store a old new rings (subst (λ o. IfSome o (IsUnderWay w store a)) (sym sending) was.sending) (subst (λ (v : Vec Flight Global). Every (IsOnWire w a) v.items) (sym flying) was.flying) was in
-      let kept = all_with store lanes a old new entries (f ∷ []) [] here lane tt (λ n. omega (arith, lane_has n new old.rings old.sending rings sending)) is in
-      let free : uses (set lanes a new) entries [] k ≡ 0 = omega (arith, uses_with lanes a old new entries entries (f ∷ []) [] k here, is.once k, lane_has k new old.rings old.sending rings sending, among-here k f [] refl) in
+      let sends : sent_by new.outgoing.sender ≡ sent_by old.outgoing.sender = ap (λ (o : Outgoing). sent_by o.sender) sending in
+      let lane = lane_same store a old new rings (subst (Every (IsUnderWay w store a)) (sym sends) was.sending) was in
+      let kept = all_with store lanes a old new entries (f ∷ []) [] here lane tt (λ n. omega (arith, lane_has n new old.rings (sent_by old.outgoing.sender) rings sends)) is in
+      let free : uses (set lanes a new) entries [] k ≡ 0 = omega (arith, uses_with lanes a old new entries entries (f ∷ []) [] k here, is.once k, lane_has k new old.rings (sent_by old.outgoing.sender) rings sends, among-here k f [] refl) in
       all_stays store k None (set lanes a new) entries [] free kept
 
   -- a frame is sent: it is on its way to its ring
@@ -355,7 +330,7 @@ module _ (w : Scenario) where
       )
 
   -- at first there is none
-  pub keep_none : (store : Store) (lanes : List Lane) → AreIdle w.net.arcs lanes → Keeps w store lanes [] []
+  pub keep_none : (store : Store) (lanes : List Lane) → AreIdle w.net lanes → Keeps w store lanes [] []
   keep_none store lanes idle = record {
     each_lane = λ a lane at. idle_keeps store a lane (idle.each a lane at);
     each_inside = tt;

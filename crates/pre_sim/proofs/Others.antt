@@ -1,145 +1,147 @@
--- What an arc's events leave as it is, and the parts of several arcs in a row.
-use Rattle.std.proofs.Common.{ℕ, ◌≡◌, ◌≢◌, ◌==◌, ◌+◌, false, List, [], ◌∷◌, ◌++◌, length, refl, sym, ◌∙◌, ap, inl, inr, arith, subst, Option, Some, None, filter_map, append_assoc}
-use Rattle.std.specs.Prelude.{slice_get, set}
-use Rattle.std.specs.List.{AllByRecursion as Every}
-use Rattle.std.proofs.lemmas.Bool.{cases_eq}
-use Rattle.std.proofs.lemmas.List.{append-nil, length-append}
-use Rattle.std.proofs.lemmas.List.Elements.{filter_map-append, filter-append}
-use Rattle.std.proofs.Math.Nat.{add-zero}
-use Rattle.pre_history.specs.Scenario.{Scenario}
-use Rattle.pre_history.specs.History.{PlainEvent, History}
-use Rattle.pre_history.specs.Selected.{begin_on, ended_on, arrive_on, entry_on, delivery_of, is_dropped}
-use Rattle.pre_history.specs.Queries.{Begins, Ends, Arrivals, Deliveries}
-use Rattle.pre_bridge.specs.Inside.{Entry, of_arc}
+-- What the events of a phase leave as it is: the lanes of the arcs that it isn't of.
+use Rattle.std.proofs.Common.{ℕ, zero, suc, ◌≡◌, ◌≢◌, ◌==◌, ◌+◌, ◌*◌, ◌<◌, ◌≤◌, Bool, true, false, List, [], ◌∷◌, ◌++◌, length, refl, sym, ◌∙◌, ap, inl, inr, arith, subst, Option, Some, None, filter_map, map, filter}
+use Rattle.std.specs.Prelude.{◌&&◌, nat_le, not, if◌then◌else◌}
+use Rattle.std.specs.List.{list_any, AllByRecursion as Every}
+use Rattle.std.proofs.lemmas.Bool.{cases_lt}
+use Rattle.std.proofs.lemmas.List.{append-nil}
+use Rattle.std.proofs.lemmas.List.Elements.{filter_map-append}
+use Rattle.pre_topo.specs.declared.arcs.Mode.TheVariants as mode
+use Rattle.pre_history.specs.Scenario.{Scenario, arc, capacity}
+use Rattle.pre_history.specs.History.{PlainEvent, Begin, History}
+use Rattle.pre_history.specs.Moments.{Phase, moments, place_of}
+use Rattle.pre_history.specs.Placed.{AllAt, AllWithin, HasPlace, IsAt, IsWithin, number, moment_of}
+use Rattle.pre_history.specs.Selected.{RingEntry, what_is, active_on, entry_on}
+use Rattle.pre_history.specs.Queries.{Begins, Ends, Arrivals, Entries}
+use Rattle.pre_history.specs.Octets.{ToldActive}
+use Rattle.pre_history.specs.Rules.{HappensIn}
+use Rattle.pre_history.specs.Legal.{LegalUpTo}
+use Rattle.pre_history.proofs.Placing.{phase_events, same_place}
+use Rattle.pre_history.proofs.Stays.{told_same}
+use Rattle.pre_history.proofs.Turns.{same_begins, same_ends, same_arrivals}
+use Rattle.pre_bridge.specs.Inside.{Entry}
+use Rattle.pre_links.specs.Standing.{AreOver, LinkStands}
+use Rattle.pre_links.proofs.Phases.{still_hears, still_stands}
+use Rattle.pre_outgoing.proofs.Keeping.{other_events}
+use Rattle.pre_incoming.proofs.OnAir.{others_stay}
 use Rattle.pre_sim.specs.declared.lanes.Lane.{Lane}
-use Rattle.pre_sim.specs.Keeps.{Store, Keeps}
-use Rattle.pre_sim.specs.Parts.{LegalAt, IsFront, IsOn, LanePart, LaneFront, LanesPart, LanesFront}
-use Rattle.pre_sim.specs.Stands.{StillWaiting, LaneStands, LanesStand}
-use Rattle.pre_sim.proofs.Lists.{every_weaker, count_by-append, none_selected, set_found, set_elsewhere}
-use Rattle.pre_sim.proofs.EndParts.{moved, still_same, inside_same}
-use Rattle.pre_sim.proofs.NumberTests.{is_eq, not_eq, adds}
+use Rattle.pre_sim.specs.Stages.{Stage, untouched, set_up, settled, entering, entered, stage_at, setting_at, turn_at, is_calm, tick_at, link_turn}
+use Rattle.pre_sim.specs.Stands.{has_begun, StillWaiting, AreApart, AreRings, AreInside, LaneStands}
+use Rattle.pre_sim.proofs.Lists.{every_weaker, none_selected}
+use Rattle.pre_sim.proofs.NumberTests.{is_eq, not_eq, same_number}
+use Rattle.pre_sim.proofs.StageTests.{same_stage}
 
-other_arc : (x a b : ℕ) → x ≡ a → b ≢ a → (x == b) ≡ false
-other_arc x a b is other = not_eq x b (λ e. other (sym e ∙ is))
+-- ---- what waits is read off the begins and the entries
 
-module _ (a b : ℕ) (other : b ≢ a) where
-  not_begin : (e : PlainEvent) → IsOn a e → begin_on b e ≡ None
-  not_begin (PlainEvent.begin x) on = rw (other_arc x.arc a b on other) refl
-  not_begin (PlainEvent.set t c v) on = refl
-  not_begin (PlainEvent.ended x) on = refl
-  not_begin (PlainEvent.arrive x) on = refl
-  not_begin (PlainEvent.deliver x) on = refl
-  not_begin (PlainEvent.active t c v) on = refl
-  not_begin (PlainEvent.enter x) on = refl
-  not_begin (PlainEvent.dropped x) on = refl
-  not_begin (PlainEvent.count c x) on = refl
-  not_begin (PlainEvent.end x) on = refl
+pub still_same : (h es : History) (a p : ℕ) → Begins (h ++ es) a ≡ Begins h a → Entries (h ++ es) a p ≡ Entries h a p → StillWaiting (h ++ es) a p ≡ StillWaiting h a p
+unfolding StillWaiting
+still_same h es a p begins entries =
+    ap (λ (bs : List Begin). map (λ (e : RingEntry). e.frame) (filter (λ (e : RingEntry). e.entered && not (list_any (λ (b : Begin). what_is b.what e.frame && (b.from == 0)) bs)) (Entries (h ++ es) a p))) begins
+    ∙ ap (λ (xs : List RingEntry). map (λ (e : RingEntry). e.frame) (filter (λ (e : RingEntry). e.entered && not (has_begun h a e.frame)) xs)) entries
 
-  not_end : (e : PlainEvent) → IsOn a e → ended_on b e ≡ None
-  not_end (PlainEvent.ended x) on = rw (other_arc x.arc a b on other) refl
-  not_end (PlainEvent.begin x) on = refl
-  not_end (PlainEvent.set t c v) on = refl
-  not_end (PlainEvent.arrive x) on = refl
-  not_end (PlainEvent.deliver x) on = refl
-  not_end (PlainEvent.active t c v) on = refl
-  not_end (PlainEvent.enter x) on = refl
-  not_end (PlainEvent.dropped x) on = refl
-  not_end (PlainEvent.count c x) on = refl
-  not_end (PlainEvent.end x) on = refl
-
-  not_arrival : (e : PlainEvent) → IsOn a e → arrive_on b e ≡ None
-  not_arrival (PlainEvent.arrive x) on = rw (other_arc x.arc a b on other) refl
-  not_arrival (PlainEvent.ended x) on = refl
-  not_arrival (PlainEvent.begin x) on = refl
-  not_arrival (PlainEvent.set t c v) on = refl
-  not_arrival (PlainEvent.deliver x) on = refl
-  not_arrival (PlainEvent.active t c v) on = refl
-  not_arrival (PlainEvent.enter x) on = refl
-  not_arrival (PlainEvent.dropped x) on = refl
-  not_arrival (PlainEvent.count c x) on = refl
-  not_arrival (PlainEvent.end x) on = refl
-
-  not_entry : (p : ℕ) (e : PlainEvent) → IsOn a e → entry_on b p e ≡ None
-  not_entry p (PlainEvent.enter x) on = rw (other_arc x.arc a b on other) refl
-  not_entry p (PlainEvent.dropped x) on = rw (other_arc x.arc a b on other) refl
-  not_entry p (PlainEvent.arrive x) on = refl
-  not_entry p (PlainEvent.ended x) on = refl
-  not_entry p (PlainEvent.begin x) on = refl
-  not_entry p (PlainEvent.set t c v) on = refl
-  not_entry p (PlainEvent.deliver x) on = refl
-  not_entry p (PlainEvent.active t c v) on = refl
-  not_entry p (PlainEvent.count c x) on = refl
-  not_entry p (PlainEvent.end x) on = refl
-
-  unselected : {Y : Type 0} (sel : PlainEvent → Option Y) → ((e : PlainEvent) → IsOn a e → sel e ≡ None) → (h es : History) → Every (IsOn a) es → filter_map sel (h ++ es) ≡ filter_map sel h
-  unselected sel none h es on =
-      filter_map-append sel h es ∙ (ap (λ xs. filter_map sel h ++ xs) (none_selected sel es (every_weaker (IsOn a) (λ e. sel e ≡ None) none es on)) ∙ append-nil (filter_map sel h))
-
-  -- the lanes of the other arcs stand
-  pub other_stands : (w : Scenario) (h es : History) (t : ℕ) (lane : Lane) (items : List Entry) → Every (IsOn a) es → LaneStands w h b t lane items → LaneStands w (h ++ es) b t lane items
-  other_stands w h es t lane items on is =
-      let begins : Begins (h ++ es) b ≡ Begins h b = unselected (begin_on b) not_begin h es on in
-      let ends : Ends (h ++ es) b ≡ Ends h b = unselected (ended_on b) not_end h es on in
-      let arrivals : Arrivals (h ++ es) b ≡ Arrivals h b = unselected (arrive_on b) not_arrival h es on in
-      record {
-        on = moved w b (Begins h b) (Begins (h ++ es) b) (Ends h b) (Ends (h ++ es) b) (length (Arrivals h b)) (length (Arrivals (h ++ es) b)) (StillWaiting h b) (StillWaiting (h ++ es) b)
-            lane.rings lane.sending lane.free_from.0 lane.begun lane.flying.items (sym begins) (sym ends) (ap length (sym arrivals))
-            (still_same h es b begins (λ p. unselected (entry_on b p) (not_entry p) h es on)) is.on;
-        inside = inside_same w h es b t items begins arrivals is.inside;
-      }
-
--- ---- one arc after another
-
-of_arc-append : (a : ℕ) (xs ys : List Entry) → of_arc a (xs ++ ys) ≡ of_arc a xs ++ of_arc a ys
-of_arc-append a xs ys = filter-append (λ (e : Entry). e.arc == a) xs ys
-
-all_of : (n : ℕ) (ys : List Entry) → Every (λ (e : Entry). e.arc ≡ n) ys → of_arc n ys ≡ ys
-all_of n [] all = refl
-all_of n (y ∷ ys) (here, more) = rw (is_eq y.arc n here) (ap (λ zs. y ∷ zs) (all_of n ys more))
-
-none_of : (a n : ℕ) → a ≢ n → (ys : List Entry) → Every (λ (e : Entry). e.arc ≡ n) ys → of_arc a ys ≡ []
-none_of a n other [] all = refl
-none_of a n other (y ∷ ys) (here, more) = rw (other_arc y.arc n a here other) (none_of a n other ys more)
-
-module _ (w : Scenario) (t k n m d due : ℕ) (store store' store'' : Store) (old mid : List Lane) (lane new : Lane) (here : slice_get mid n ≡ Some lane) (more next : List Entry) (es fs : History)
-    (so_far : LanesPart w t k n m due store store' old mid more es) where
-  pub lane_more : LanePart w t (k + n) n d due store' store'' lane new next fs → LanesPart w t k (n + 1) (m + d) due store store'' old (set mid n new) (more ++ next) (es ++ fs)
-  lane_more part = record {
-    deliveries = ap length (filter_map-append delivery_of es fs) ∙ (length-append (Deliveries es) (Deliveries fs) ∙ adds so_far.deliveries part.deliveries);
-    drops = count_by-append is_dropped es fs ∙ adds so_far.drops part.drops;
-    legal = λ h entries legal stand.
-        let before = so_far.legal h entries legal stand in
-        let inside = entries ++ more in
-        let now = part.legal (h ++ es) (of_arc n inside) before.0 (before.1 n lane here) in
-        let legal' : LegalAt w t (k + (n + 1)) ((h ++ es) ++ fs) = subst (λ m. LegalAt w t m ((h ++ es) ++ fs)) (same_place k n) now.0 in
-        let mine : of_arc n inside ++ next ≡ of_arc n (inside ++ next) = ap (λ xs. of_arc n inside ++ xs) (sym (all_of n next part.here)) ∙ sym (of_arc-append n inside next) in
-        let each : LanesStand w ((h ++ es) ++ fs) due (set mid n new) (inside ++ next) = λ a l at. elim (cases_eq a n) [
-          | inl is ↦ subst (λ (x : Lane). LaneStands w ((h ++ es) ++ fs) a due x (of_arc a (inside ++ next))) (set_found mid n new l (subst (λ m. slice_get (set mid n new) m ≡ Some l) is at))
-              (subst (λ m. LaneStands w ((h ++ es) ++ fs) m due new (of_arc m (inside ++ next))) (sym is) (subst (LaneStands w ((h ++ es) ++ fs) n due new) mine now.1))
-          | inr other ↦
-              let others : of_arc a inside ≡ of_arc a (inside ++ next) = sym (of_arc-append a inside next ∙ (ap (λ xs. of_arc a inside ++ xs) (none_of a n other next part.here) ∙ append-nil (of_arc a inside))) in
-              subst (LaneStands w ((h ++ es) ++ fs) a due l) others (other_stands n a other w (h ++ es) fs due l (of_arc a inside) part.arc (before.1 a l (sym (set_elsewhere mid n a new other) ∙ at)))
-        ] in
-        subst (λ g. LegalAt w t (k + (n + 1)) g × LanesStand w g due (set mid n new) (entries ++ (more ++ next))) (append_assoc h es fs)
-        (subst (λ xs. LegalAt w t (k + (n + 1)) ((h ++ es) ++ fs) × LanesStand w ((h ++ es) ++ fs) due (set mid n new) xs) (append_assoc entries more next) (legal', each));
-    keeps = λ entries kept. subst (λ xs. Keeps w store'' (set mid n new) xs []) (append_assoc entries more next) (part.keeps mid (entries ++ more) here (so_far.keeps entries kept));
-  }
-    where
-      same_place : (x y : ℕ) → x + y + 1 ≡ x + (y + 1)
-      same_place x y = omega arith
-
-  pub front_more : LaneFront w t (k + n) n due lane fs → LanesFront w t k due old (es ++ fs)
-  front_more front h entries legal stand =
-      let before = so_far.legal h entries legal stand in
-      subst (IsFront w) (append_assoc h es fs) (front (h ++ es) (of_arc n (entries ++ more)) before.0 (before.1 n lane here))
-
--- nothing yet
-pub lanes_begin : (w : Scenario) (t k due : ℕ) (store : Store) (lanes : List Lane) → LanesPart w t k 0 0 due store store lanes lanes [] []
-lanes_begin w t k due store lanes = record {
-  deliveries = refl;
-  drops = refl;
-  legal = λ h entries legal stand.
-      subst (λ xs. LegalAt w t (k + 0) (h ++ []) × LanesStand w (h ++ []) due lanes xs) (sym (append-nil entries))
-      (subst (λ g. LegalAt w t (k + 0) g × LanesStand w g due lanes entries) (sym (append-nil h)) (subst (λ m. LegalAt w t m h) (sym (add-zero k)) legal, stand));
-  keeps = λ entries kept. subst (λ xs. Keeps w store lanes xs []) (sym (append-nil entries)) kept;
+pub same_rings : (w : Scenario) (h es : History) (a : ℕ) (lane : Lane) → Begins (h ++ es) a ≡ Begins h a → ((p : ℕ) → Entries (h ++ es) a p ≡ Entries h a p)
+    → AreRings w h a lane.rings → AreRings w (h ++ es) a lane.rings
+same_rings w h es a lane begins entries is = record {
+  numbers = λ p. is.numbers p ∙ sym (still_same h es a p begins (entries p));
+  fits = λ p. subst (λ (xs : List ℕ). length xs ≤ capacity w a p) (sym (still_same h es a p begins (entries p))) (is.fits p);
+  apart = λ p. subst AreApart (sym (still_same h es a p begins (entries p))) (is.apart p);
 }
+
+-- ---- at another place nothing enters, and no change of activity is told
+
+module _ (arcs t k a : ℕ) (k_lt : k < moments arcs) (a_lt : a < arcs) where
+  not_entry : (p : ℕ) → k ≢ 1 + 3 * arcs → (e : PlainEvent) → IsAt arcs (number arcs t k) e → entry_on a p e ≡ None
+  not_entry p other (PlainEvent.enter x) at = absurd (other (same_place arcs t x.tick k (1 + 3 * arcs) k_lt (omega arith) at))
+  not_entry p other (PlainEvent.dropped x) at = absurd (other (same_place arcs t x.tick k (1 + 3 * arcs) k_lt (omega arith) at))
+  not_entry p other (PlainEvent.begin b) at = refl
+  not_entry p other (PlainEvent.set s b v) at = refl
+  not_entry p other (PlainEvent.ended e) at = refl
+  not_entry p other (PlainEvent.arrive x) at = refl
+  not_entry p other (PlainEvent.deliver d) at = refl
+  not_entry p other (PlainEvent.active s b v) at = refl
+  not_entry p other (PlainEvent.count b c) at = refl
+  not_entry p other (PlainEvent.end e) at = refl
+
+  pub same_entries : (p : ℕ) (past es : History) → k ≢ 1 + 3 * arcs → AllAt arcs (number arcs t k) es → Entries (past ++ es) a p ≡ Entries past a p
+  same_entries p past es other at =
+      filter_map-append (entry_on a p) past es
+      ∙ (ap (λ xs. Entries past a p ++ xs) (none_selected (entry_on a p) es (every_weaker (IsAt arcs (number arcs t k)) (λ e. entry_on a p e ≡ None) (not_entry p other) es at)) ∙ append-nil (Entries past a p))
+
+  not_active : (u : ℕ) → k ≢ 1 + 2 * arcs + a → (e : PlainEvent) → IsAt arcs (number arcs t k) e → active_on a u e ≡ None
+  not_active u other (PlainEvent.active s b v) (lt, at) = go (b == a) refl
+    where
+      go : (same : Bool) → (b == a) ≡ same → (if (same && nat_le s u) then Some v else None) ≡ None
+      go false is = refl
+      go true is = absurd (other (same_place arcs t s k (1 + 2 * arcs + b) k_lt (omega (arith, lt)) at ∙ ap (λ x. 1 + 2 * arcs + x) (same_number b a is)))
+  not_active u other (PlainEvent.begin b) at = refl
+  not_active u other (PlainEvent.set s b v) at = refl
+  not_active u other (PlainEvent.ended e) at = refl
+  not_active u other (PlainEvent.arrive x) at = refl
+  not_active u other (PlainEvent.deliver d) at = refl
+  not_active u other (PlainEvent.enter x) at = refl
+  not_active u other (PlainEvent.dropped x) at = refl
+  not_active u other (PlainEvent.count b c) at = refl
+  not_active u other (PlainEvent.end e) at = refl
+
+  pub same_active : (w : Scenario) (u : ℕ) (past es : History) → k ≢ 1 + 2 * arcs + a → AllAt arcs (number arcs t k) es → ToldActive w (past ++ es) a u ≡ ToldActive w past a u
+  same_active w u past es other at = told_same w past es a u (every_weaker (IsAt arcs (number arcs t k)) (λ e. active_on a u e ≡ None) (not_active u other) es at)
+
+-- ---- the lane of an arc that the phase isn't of
+
+place_within : (arcs : ℕ) (p : Phase) → HasPlace arcs (place_of arcs p) p → place_of arcs p < moments arcs
+place_within arcs Phase.sets place = omega arith
+place_within arcs (Phase.ends a) (lt, place) = omega (arith, lt)
+place_within arcs (Phase.arrivals a) (lt, place) = omega (arith, lt)
+place_within arcs (Phase.expiries a) (lt, place) = omega (arith, lt)
+place_within arcs Phase.entries place = omega arith
+place_within arcs (Phase.starts a) (lt, place) = omega (arith, lt)
+
+same_setting : (w : Scenario) (h es : History) (a : ℕ) (s : Stage) → setting_at w h a s ≡ setting_at w (h ++ es) a s
+same_setting w h es a (untouched zero) = refl
+same_setting w h es a (untouched (suc t)) = refl
+same_setting w h es a (set_up t) = refl
+same_setting w h es a (settled t) = refl
+same_setting w h es a (entering t) = refl
+same_setting w h es a (entered t) = refl
+
+module _ (w : Scenario) (t : ℕ) (p : Phase) (h es : History) (b : ℕ) (b_lt : b < length w.net.arcs) (place : HasPlace (length w.net.arcs) (place_of (length w.net.arcs) p) p)
+    (legal : LegalUpTo w (moment_of w t p) h) (happens : HappensIn w h t p es) where
+  abbrev A : ℕ
+  A = length w.net.arcs
+
+  abbrev k : ℕ
+  k = place_of A p
+
+  k_lt : k < moments A
+  k_lt = place_within A p place
+
+  at : AllAt A (number A t k) es
+  at = phase_events w h t k p es place happens
+
+  within : AllWithin A (moment_of w t p) (suc (moment_of w t p)) es
+  within = every_weaker (IsAt A (moment_of w t p)) (IsWithin A (moment_of w t p) (suc (moment_of w t p))) (λ e here. (moment_of w t p, omega arith, omega arith, here)) es at
+
+  -- what is new on an arc of which nothing begins, ends, arrives, enters or is told
+  module _ (no_end : k ≢ 1 + b) (no_arrival : k ≢ 1 + A + b) (no_expiry : k ≢ 1 + 2 * A + b) (no_entry : k ≢ 1 + 3 * A) (no_start : k ≢ 2 + 3 * A + b) where
+    begins : Begins (h ++ es) b ≡ Begins h b
+    begins = same_begins A t k b k_lt b_lt h es no_start at
+
+    ends : Ends (h ++ es) b ≡ Ends h b
+    ends = same_ends A t k b k_lt b_lt h es no_end at
+
+    arrivals : Arrivals (h ++ es) b ≡ Arrivals h b
+    arrivals = same_arrivals A t k b k_lt b_lt h es no_arrival at
+
+    entries : (q : ℕ) → Entries (h ++ es) b q ≡ Entries h b q
+    entries q = same_entries A t k b k_lt b_lt q h es no_entry at
+
+    pub stays : (s : Stage) (lane : Lane) (items : List Entry) → AreOver w (link_turn s) (moment_of w t p) → LaneStands w h b s lane items → LaneStands w (h ++ es) b s lane items
+    stays s lane items over is = record {
+      rings = same_rings w h es b lane begins entries is.rings;
+      outgoing = other_events w h (h ++ es) b (tick_at s) (is_calm s) lane.outgoing begins ends entries (λ u lt. same_active A t k b k_lt b_lt w u h es no_expiry at) is.outgoing;
+      incoming = others_stay w (moment_of w t p) (suc (moment_of w t p)) h es legal within b b_lt lane.incoming
+          (same_ends A t k b k_lt b_lt [] es no_end at) (same_arrivals A t k b k_lt b_lt [] es no_arrival at) is.incoming;
+      partner = still_hears w t p h es b b_lt place legal happens lane.partner no_arrival is.partner;
+      setting = is.setting ∙ same_setting w h es b s;
+      link = λ negotiates. still_stands w t p h es b b_lt place legal happens (link_turn s) lane.link over no_end no_start (is.link negotiates);
+      inside = subst (λ xs. AreInside w b (Begins (h ++ es) b) xs (turn_at s) items) (sym arrivals) (subst (λ bs. AreInside w b bs (Arrivals h b) (turn_at s) items) (sym begins) is.inside);
+    }

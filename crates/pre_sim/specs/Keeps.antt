@@ -1,6 +1,6 @@
--- Where the frames of a run stand: each that waits, is being sent or is inside a bridge stands in a slot of the store, and no
--- two stand in one slot. What is on a wire has octets of its own.
-use Rattle.std.specs.Prelude.{ℕ, ◌+◌, ◌≡◌, ◌<◌, ◌≤◌, ◌==◌, List, [], ◌∷◌, ◌++◌, length, map, count_by, set, slice_get, Contains, Option, Some, None, IfSome}
+-- Where the frames of a run stand: each that waits, is being sent, is interrupted or is inside a bridge stands in a slot of the
+-- store, and no two stand in one slot. What is on a wire has octets of its own.
+use Rattle.std.specs.Prelude.{ℕ, ◌+◌, ◌≡◌, ◌<◌, ◌≤◌, ◌==◌, List, [], ◌∷◌, ◌++◌, length, map, count_by, set, slice_get, Contains, Option, Some}
 use Rattle.std.specs.List.{sum_by, AllByRecursion as Every}
 use Rattle.pre_base.specs.declared.limits.TheConstants.{LEAST_FRAME}
 use Rattle.pre_base.specs.declared.numbers.FrameNo.{FrameNo}
@@ -10,10 +10,10 @@ use Rattle.pre_rings.specs.Stores.{HoldsAt}
 use Rattle.pre_history.specs.Scenario.{Scenario, arc, row, send, FrameOf}
 use Rattle.pre_history.specs.Comings.{hops}
 use Rattle.pre_bridge.specs.declared.relays.Relay.{Relay}
+use Rattle.pre_send.specs.Owned.{frames_of}
+use Rattle.pre_links.specs.Standing.{IsReady, IsUpTo}
 use Rattle.pre_bridge.specs.Inside.{Call, Entry, inside}
 use Rattle.pre_bridge.specs.Relays.{Stands}
-use Rattle.pre_sim.specs.declared.lanes.Sending.{Sending}
-use Rattle.pre_sim.specs.declared.lanes.Flight.{Flight}
 use Rattle.pre_sim.specs.declared.lanes.Lane.{Lane}
 use Rattle.pre_sim.specs.declared.ticks.Progress.{Progress}
 
@@ -40,18 +40,9 @@ pub record Waits (w : Scenario) (store : Store) (a p : ℕ) (f : FrameRef) : Typ
   pub over : GoesOver w f.frame a
   pub ring : f.prio ≡ p
 
--- The frame is being sent.
-pub record IsUnderWay (w : Scenario) (store : Store) (a : ℕ) (s : Sending) : Type 0 where
-  pub frame : IsFrameOf w store s.frame
-  pub over : GoesOver w s.frame.frame a
-
--- What is on the wire is a frame of the script.
-pub record IsOnWire (w : Scenario) (a : ℕ) (f : Flight) : Type 0 where
-  pub known : f.frame.0 < length w.script.sends
-  pub prio : f.prio ≡ (row w f.frame.0).prio
-  pub vid : f.vid ≡ (row w f.frame.0).vid
-  pub octets : f.octets.items ≡ FrameOf w f.frame.0
-  pub long : LEAST_FRAME ≤ (send w f.frame.0).send.size
+-- The frame is being sent, or is interrupted.
+pub record IsUnderWay (w : Scenario) (store : Store) (a : ℕ) (f : FrameRef) : Type 0 where
+  pub frame : IsFrameOf w store f
   pub over : GoesOver w f.frame a
 
 -- The frame is inside a bridge, and goes on over the arc by which it leaves.
@@ -63,8 +54,7 @@ pub record LaneKeeps (w : Scenario) (store : Store) (a : ℕ) (lane : Lane) : Ty
   pub eight : IsPort lane.rings
   pub capacities : lane.rings.capacities ≡ (arc w a).rings
   pub waiting : (p : ℕ) → Every (Waits w store a p) (frames_at lane.rings p)
-  pub sending : IfSome lane.sending (IsUnderWay w store a)
-  pub flying : Every (IsOnWire w a) lane.flying.items
+  pub sending : Every (IsUnderWay w store a) (frames_of lane.outgoing.sender)
 
 -- ---- no two in one slot
 
@@ -72,14 +62,9 @@ pub record LaneKeeps (w : Scenario) (store : Store) (a : ℕ) (lane : Lane) : Ty
 abbrev pub among : ℕ → List FrameRef → ℕ
 among s frames = count_by (λ f. f.slot == s) frames
 
--- the frame that is being sent
-abbrev pub under_way : Option Sending → List FrameRef
-under_way None = []
-under_way (Some s) = s.frame ∷ []
-
 -- how many of those that wait for an arc or are being sent on it
 abbrev pub of_lane : ℕ → Lane → ℕ
-of_lane s lane = sum_by (among s) lane.rings.frames + among s (under_way lane.sending)
+of_lane s lane = sum_by (among s) lane.rings.frames + among s (frames_of lane.outgoing.sender)
 
 -- how many of those at all arcs, inside bridges, and on their way from the one to the other
 abbrev pub uses : List Lane → List Entry → List FrameRef → ℕ → ℕ
@@ -110,3 +95,16 @@ KeepsOn w a store store' old new more =
 abbrev pub TakesIn : Scenario → (old new : Relay) → List Entry → Type 0
 TakesIn w old new more =
     (calls : List Call) → Stands old w.net w.streams calls → (calls' : List Call) × Stands new w.net w.streams calls' × (inside w.net w.streams calls' ≡ inside w.net w.streams calls ++ more)
+
+-- ---- the links
+
+-- each link can be settled at the tick, or has been
+abbrev pub AreReady : ℕ → List Lane → Type 0
+AreReady tick lanes = (a : ℕ) (lane : Lane) → slice_get lanes a ≡ Some lane → IsReady lane.link tick
+
+abbrev pub AreSettled : ℕ → List Lane → Type 0
+AreSettled tick lanes = (a : ℕ) (lane : Lane) → slice_get lanes a ≡ Some lane → IsUpTo lane.link tick
+
+-- the links stay as they were
+abbrev pub SameLinks : List Lane → List Lane → Type 0
+SameLinks old new = map (λ l. l.link) new ≡ map (λ l. l.link) old

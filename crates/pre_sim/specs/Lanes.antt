@@ -1,49 +1,30 @@
--- What a lane is at first, and what is taken from it.
-use Rattle.std.specs.Prelude.{ℕ, ◌≡◌, ◌≢◌, List, [], length, drop, replicate, Some, None, slice_get, slice_index_or}
+-- What a lane is at first.
+use Rattle.std.specs.Prelude.{ℕ, ◌≡◌, true, List, [], length, replicate, Some, slice_get, slice_index_or}
 use Rattle.pre_topo.specs.declared.arcs.Arc.{Arc}
-use Rattle.pre_history.specs.Scenario.{no_arc}
-use Rattle.pre_sim.specs.declared.lanes.Sending.{Sending}
-use Rattle.pre_sim.specs.declared.lanes.Flight.{Flight}
+use Rattle.pre_topo.specs.declared.nodes.Timing.{Timing}
+use Rattle.pre_topo.specs.declared.network.Network.{Network}
+use Rattle.pre_script.specs.declared.scripts.Setting.TheVariants as setting
+use Rattle.pre_send.specs.Owned.{frames_of}
+use Rattle.pre_history.specs.Scenario.{Scenario, arc, no_arc}
+use Rattle.pre_outgoing.specs.Sends.{Sends}
+use Rattle.pre_incoming.specs.Wires.{Receives}
+use Rattle.pre_links.specs.Listening.{Hears}
+use Rattle.pre_links.specs.Standing.{LinkStands, IsReady}
 use Rattle.pre_sim.specs.declared.lanes.Lane.{Lane}
 
--- Nothing is on the arc, and nothing waits; its rings have these capacities.
-pub record IsIdle (capacities : List ℕ) (lane : Lane) : Type 0 where
-  pub eight : length capacities ≡ 8
-  pub rings : lane.rings ≡ record { frames = replicate 8 []; capacities = capacities }
-  pub sending : lane.sending ≡ None
-  pub free : lane.free_from.0 ≡ 0
-  pub begun : lane.begun ≡ 0
-  pub flying : lane.flying.items ≡ []
+-- Nothing is on the arc, nothing waits, and nothing was received.
+pub record IsIdle (timing : Timing) (a : Arc) (lane : Lane) : Type 0 where
+  pub eight : length a.rings ≡ 8
+  pub rings : lane.rings ≡ record { frames = replicate 8 []; capacities = a.rings }
+  pub outgoing : (w : Scenario) (i : ℕ) → (arc w i).cost ≡ a.cost → (arc w i).add_frag ≡ a.add_frag → Sends w [] i 0 true lane.outgoing
+  pub sending : frames_of lane.outgoing.sender ≡ []
+  pub incoming : (w : Scenario) (i : ℕ) → Receives w [] i lane.incoming
+  pub partner : (w : Scenario) (i : ℕ) → w.net.timing.unit ≡ timing.unit → Hears w [] i lane.partner
+  pub set : lane.setting ≡ setting.On
+  pub link : (w : Scenario) (i : ℕ) → w.net.timing.verify ≡ timing.verify → LinkStands w [] i 0 lane.link
+  pub ready : IsReady lane.link 0
 
 -- There is such a lane for each arc.
-pub record AreIdle (arcs : List Arc) (lanes : List Lane) : Type 0 where
-  pub long : length lanes ≡ length arcs
-  pub each : (a : ℕ) (lane : Lane) → slice_get lanes a ≡ Some lane → IsIdle (slice_index_or arcs a no_arc).rings lane
-
--- ---- at a tick
-
--- the mPacket that was being sent ends
-pub record Ends (t : ℕ) (old new : Lane) (s : Sending) : Type 0 where
-  pub was : old.sending ≡ Some s
-  pub due : s.due.0 ≡ t
-  pub rest : new ≡ record old { sending = None }
-
--- none ends
-pub record IsQuiet (t : ℕ) (old new : Lane) : Type 0 where
-  pub same : new ≡ old
-  pub later : (s : Sending) → old.sending ≡ Some s → s.due.0 ≢ t
-
--- the first of those on the wire arrives
-pub record Arrives (t : ℕ) (old new : Lane) (f : Flight) : Type 0 where
-  pub was : slice_get old.flying.items 0 ≡ Some f
-  pub due : f.due.0 ≡ t
-  pub rest : new.flying.items ≡ drop 1 old.flying.items
-  pub rings : new.rings ≡ old.rings
-  pub sending : new.sending ≡ old.sending
-  pub free : new.free_from ≡ old.free_from
-  pub begun : new.begun ≡ old.begun
-
--- none arrives
-pub record IsFarOff (t : ℕ) (old new : Lane) : Type 0 where
-  pub same : new ≡ old
-  pub later : (f : Flight) → slice_get old.flying.items 0 ≡ Some f → f.due.0 ≢ t
+pub record AreIdle (net : Network) (lanes : List Lane) : Type 0 where
+  pub long : length lanes ≡ length net.arcs
+  pub each : (a : ℕ) (lane : Lane) → slice_get lanes a ≡ Some lane → IsIdle net.timing (slice_index_or net.arcs a no_arc) lane

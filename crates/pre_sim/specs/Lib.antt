@@ -1,5 +1,6 @@
 pub mod Telling
 pub mod Reach
+pub mod Stages
 pub mod Keeps
 pub mod Stands
 pub mod Lanes
@@ -10,3 +11,6 @@ pub mod Sends
 pub mod Parts
 pub mod Arriving
 pub mod Choices
+pub mod Starting
+pub mod Closing
+pub mod Ending

@@ -12,7 +12,7 @@ use Rattle.pre_bridge.specs.Inside.{Call, Entry, taken, inside}
 use Rattle.pre_bridge.specs.Turns.{dues}
 use Rattle.pre_bridge.specs.Relays.{Stands}
 use Rattle.pre_sim.specs.declared.lanes.Lane.{Lane}
-use Rattle.pre_sim.specs.Stands.{LanesStand}
+use Rattle.pre_sim.specs.Stands.{LanesEnter}
 use Rattle.pre_sim.specs.Keeps.{Store, Keeps}
 
 -- All mPackets began at earlier ticks, and all that came to a ring came by this one.
@@ -61,8 +61,8 @@ sent_frames w k (suc n) = sent_frames w k n ++ sent_frame w (k + n) ∷ []
 module _ (w : Scenario) (t : ℕ) (cs : List Coming) (old : List Lane) where
   -- these events are what the rules say of them, and the lanes stand behind them
   abbrev pub Come : List Lane → History → Type 0
-  Come new es = (h : History) (entries : List Entry) → AreNew w h cs → LanesStand w h t old entries → BeforeEntries t h
-      → (es ≡ EntriesOf w t h cs) × LanesStand w (h ++ es) t new entries × BeforeEntries t (h ++ es)
+  Come new es = (h : History) (entries : List Entry) → AreNew w h cs → LanesEnter w h t old entries → BeforeEntries t h
+      → (es ≡ EntriesOf w t h cs) × LanesEnter w (h ++ es) t new entries × BeforeEntries t (h ++ es)
 
   -- they came to their rings, and what became of each was told
   pub record ComesPart (new : List Lane) (lost : ℕ) (es : History) : Type 0 where
@@ -72,7 +72,7 @@ module _ (w : Scenario) (t : ℕ) (cs : List Coming) (old : List Lane) where
 
   -- what was told is of the first ones
   abbrev pub ComesFront : History → Type 0
-  ComesFront es = (h : History) (entries : List Entry) → AreNew w h cs → LanesStand w h t old entries → BeforeEntries t h
+  ComesFront es = (h : History) (entries : List Entry) → AreNew w h cs → LanesEnter w h t old entries → BeforeEntries t h
       → (front : List Coming) × (rest : List Coming) × (cs ≡ front ++ rest) × (es ≡ EntriesOf w t h front)
 
 -- the frame comes to the arc

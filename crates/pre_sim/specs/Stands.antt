@@ -1,25 +1,24 @@
--- What the state of a run says of the events told so far: all but the frames inside bridges names no tick, so that it stays
--- where nothing is told.
-use Rattle.std.specs.Prelude.{ℕ, suc, ◌+◌, ◌-◌, ◌*◌, ◌<◌, ◌≤◌, ◌≡◌, ◌≢◌, ◌==◌, ◌&&◌, not, Bool, if◌then◌else◌, List, [], ◌∷◌, length, map, filter, filter_map, take, drop, count_by, Option, Some, None, MatchOption, slice_get, option_map, option_and_then}
+-- What the state of a run says of the events told so far, at each place of a tick.
+use Rattle.std.specs.Prelude.{ℕ, ◌+◌, ◌*◌, ◌<◌, ◌≤◌, ◌≡◌, ◌≢◌, ◌==◌, ◌&&◌, nat_le, not, Bool, if◌then◌else◌, List, [], ◌∷◌, length, map, filter, filter_map, take, drop, count_by, Option, Some, None, slice_get, option_map, option_and_then}
 use Rattle.std.specs.List.{list_any, AllByRecursion as Every}
-use Rattle.pre_base.specs.declared.limits.TheConstants.{GAP}
-use Rattle.pre_base.specs.declared.numbers.FrameNo.{FrameNo}
-use Rattle.pre_mpacket.specs.declared.packets.Kind.TheVariants as kind
+use Rattle.pre_topo.specs.declared.arcs.Mode.TheVariants as mode
 use Rattle.pre_rings.specs.Ports.{Port, frames_at}
-use Rattle.pre_history.specs.declared.events.What.TheVariants as what
 use Rattle.pre_history.specs.Scenario.{Scenario, arc, send, capacity, latency}
 use Rattle.pre_history.specs.Placed.{number}
-use Rattle.pre_history.specs.History.{Begin, Ended, Arrive, History}
+use Rattle.pre_history.specs.History.{Begin, Arrive, History}
 use Rattle.pre_history.specs.Selected.{what_is, frame_in, is_frame_result, is_dropped}
-use Rattle.pre_history.specs.Queries.{Begins, Ends, Arrivals, Entries, Deliveries}
+use Rattle.pre_history.specs.Queries.{Begins, Arrivals, Entries, Deliveries}
 use Rattle.pre_history.specs.Comings.{next_arc}
-use Rattle.pre_history.specs.Legal.{LegalUpTo}
+use Rattle.pre_history.specs.Legal.{LegalBefore}
 use Rattle.pre_bridge.specs.Inside.{Call, Entry, of_arc, inside}
 use Rattle.pre_bridge.specs.Relays as relays
-use Rattle.pre_sim.specs.declared.lanes.Sending.{Sending}
-use Rattle.pre_sim.specs.declared.lanes.Flight.{Flight}
+use Rattle.pre_outgoing.specs.Sends.{Sends}
+use Rattle.pre_incoming.specs.Wires.{Receives}
+use Rattle.pre_links.specs.Listening.{Hears}
+use Rattle.pre_links.specs.Standing.{LinkStands}
 use Rattle.pre_sim.specs.declared.lanes.Lane.{Lane}
 use Rattle.pre_sim.specs.declared.ticks.Progress.{Progress}
+use Rattle.pre_sim.specs.Stages.{Stage, entering, stage_at, setting_at, turn_at, is_calm, tick_at, link_turn}
 
 module _ (h : History) where
   -- whether the frame's first octet began on the arc
@@ -39,60 +38,11 @@ AreApart (n ∷ ns) = Every (λ m. n ≢ m) ns × AreApart ns
 abbrev pub ring_numbers : Port → ℕ → List ℕ
 ring_numbers rings p = map (λ f. f.frame.0) (frames_at rings p)
 
--- The mPacket of this number carries the whole of the frame.
-pub record Carries (frame : FrameNo) (ord : ℕ) (b : Begin) : Type 0 where
-  pub its_ord : b.ord ≡ ord
-  pub kind : b.kind ≡ kind.Express
-  pub what : b.what ≡ what.Frame frame
-  pub from : b.from ≡ 0
-
--- ---- the mPackets of an arc that began and that ended
-
--- It is the arc's last mPacket, which has no end yet, and ends when its size says.
-pub record IsSent (w : Scenario) (a : ℕ) (begins : List Begin) (ends : List Ended) (s : Sending) : Type 0 where
-  pub begin : Begin
-  pub unended : length begins ≡ suc (length ends)
-  pub last : slice_get begins (length ends) ≡ Some begin
-  pub carries : Carries s.frame.frame s.ord begin
-  pub due : s.due.0 ≡ begin.tick + (arc w a).cost * ((send w s.frame.frame.0).send.size + 8)
-
--- It is the mPacket that ended so, and arrives after the delay.
-pub record IsFlying (w : Scenario) (a : ℕ) (begins : List Begin) (flight : Flight) (e : Ended) : Type 0 where
-  pub begin : Begin
-  pub begun : slice_get begins flight.ord ≡ Some begin
-  pub ord : e.ord ≡ flight.ord
-  pub carries : Carries flight.frame flight.ord begin
-  pub due : flight.due.0 ≡ e.tick + (arc w a).delay
-
--- each flight is the end at its place
-abbrev pub AreFlying : Scenario → ℕ → List Begin → List Flight → List Ended → Type 0
-AreFlying w a begins [] [] = Unit {0}
-AreFlying w a begins [] (e ∷ es) = ⊥
-AreFlying w a begins (f ∷ fs) [] = ⊥
-AreFlying w a begins (f ∷ fs) (e ∷ es) = IsFlying w a begins f e × AreFlying w a begins fs es
-
--- The tick is the end of the gap of twelve octets behind the last end, and 0 where none ended.
-pub record IsFreeFrom (w : Scenario) (a : ℕ) (ends : List Ended) (tick : ℕ) : Type 0 where
-  pub behind : Every (λ e. e.tick + GAP * (arc w a).cost ≤ tick) ends
-  pub least : 0 < tick → (e : Ended) × (slice_get ends (length ends - 1) ≡ Some e) × (tick ≡ e.tick + GAP * (arc w a).cost)
-
--- a whole frame
-pub record IsWholeBegin (b : Begin) : Type 0 where
-  pub kind : b.kind ≡ kind.Express
-  pub frame : FrameNo
-  pub what : b.what ≡ what.Frame frame
-
--- What a lane says of the mPackets of its arc that began, ended and arrived, and of what waits at each priority.
-pub record IsLane (w : Scenario) (a : ℕ) (begins : List Begin) (ends : List Ended) (arrived : ℕ) (waits : ℕ → List ℕ)
-    (rings : Port) (sending : Option Sending) (free_from begun : ℕ) (flying : List Flight) : Type 0 where
-  pub begun_is : begun ≡ length begins
-  pub sent_is : MatchOption sending (length begins ≡ length ends) (IsSent w a begins ends)
-  pub free : IsFreeFrom w a ends free_from
-  pub flies : AreFlying w a begins flying (drop arrived ends)
-  pub waits_are : (p : ℕ) → ring_numbers rings p ≡ waits p
-  pub fits : (p : ℕ) → length (waits p) ≤ capacity w a p
-  pub apart : (p : ℕ) → AreApart (waits p)
-  pub whole : Every IsWholeBegin begins
+-- What the rings of an arc hold is what waits for it.
+pub record AreRings (w : Scenario) (h : History) (a : ℕ) (rings : Port) : Type 0 where
+  pub numbers : (p : ℕ) → ring_numbers rings p ≡ StillWaiting h a p
+  pub fits : (p : ℕ) → length (StillWaiting h a p) ≤ capacity w a p
+  pub apart : (p : ℕ) → AreApart (StillWaiting h a p)
 
 -- ---- the frames inside the bridge at an arc's end
 
@@ -121,15 +71,24 @@ pub record AreInside (w : Scenario) (a : ℕ) (begins : List Begin) (arrivals : 
   pub later : Every (λ x. tick ≤ x.tick + latency w a) (drop gone arrivals)
   pub are : filter_map (onward w a begins) (drop gone arrivals) ≡ map passes items
 
--- what a lane, and the frames inside the bridge at its end, say of the events told before the bridges hand on what is due at
--- the tick
-pub record LaneStands (w : Scenario) (h : History) (a tick : ℕ) (lane : Lane) (items : List Entry) : Type 0 where
-  pub on : IsLane w a (Begins h a) (Ends h a) (length (Arrivals h a)) (StillWaiting h a) lane.rings lane.sending lane.free_from.0 lane.begun lane.flying.items
-  pub inside : AreInside w a (Begins h a) (Arrivals h a) tick items
+-- What a lane, and the frames inside the bridge at its end, say of the events told so far, at a stage of a tick.
+pub record LaneStands (w : Scenario) (h : History) (a : ℕ) (stage : Stage) (lane : Lane) (items : List Entry) : Type 0 where
+  pub rings : AreRings w h a lane.rings
+  pub outgoing : Sends w h a (tick_at stage) (is_calm stage) lane.outgoing
+  pub incoming : Receives w h a lane.incoming
+  pub partner : Hears w h a lane.partner
+  pub setting : lane.setting ≡ setting_at w h a stage
+  pub link : (arc w a).mode ≡ mode.Negotiate → LinkStands w h a (link_turn stage) lane.link
+  pub inside : AreInside w a (Begins h a) (Arrivals h a) (turn_at stage) items
 
--- each lane does, with those of the frames inside that arrived by its arc
-abbrev pub LanesStand : Scenario → History → ℕ → List Lane → List Entry → Type 0
-LanesStand w h tick lanes entries = (a : ℕ) (lane : Lane) → slice_get lanes a ≡ Some lane → LaneStands w h a tick lane (of_arc a entries)
+-- Each lane does at its stage, with those of the frames inside that arrived by its arc, at a place of a tick.
+abbrev pub LanesStand : Scenario → History → (t k : ℕ) → List Lane → List Entry → Type 0
+LanesStand w h t k lanes entries =
+    (a : ℕ) (lane : Lane) → slice_get lanes a ≡ Some lane → LaneStands w h a (stage_at (length w.net.arcs) t k a) lane (of_arc a entries)
+
+-- So do all lanes, while frames come to rings.
+abbrev pub LanesEnter : Scenario → History → (t : ℕ) → List Lane → List Entry → Type 0
+LanesEnter w h t lanes entries = (a : ℕ) (lane : Lane) → slice_get lanes a ≡ Some lane → LaneStands w h a (entering t) lane (of_arc a entries)
 
 -- so many sends are those before the tick
 pub record AreSentBefore (w : Scenario) (tick sent : ℕ) : Type 0 where
@@ -137,14 +96,28 @@ pub record AreSentBefore (w : Scenario) (tick sent : ℕ) : Type 0 where
   pub past : (k : ℕ) → k < sent → (send w k).send.tick.0 < tick
   pub later : (k : ℕ) → sent ≤ k → k < length w.script.sends → tick ≤ (send w k).send.tick.0
 
--- What a run says of the events told so far: they are all those before place k of tick t, what is on the arcs, waits for
--- them or stays in bridges is what they show, what bridges hand on and the sends before tick `due` are over, and so many
--- frames were delivered and dropped.
-pub record Reaches (w : Scenario) (t k due : ℕ) (h : History) (p : Progress) : Type 0 where
-  pub legal : LegalUpTo w (number (length w.net.arcs) t k) h
+-- and so many `set` lines
+pub record AreSetBefore (w : Scenario) (tick set : ℕ) : Type 0 where
+  pub within : set ≤ length w.script.sets
+  pub past : Every (λ s. s.tick.0 < tick) (take set w.script.sets)
+  pub later : Every (λ s. tick ≤ s.tick.0) (drop set w.script.sets)
+
+-- the tick whose lines come next: the next tick, once this tick's are told
+abbrev pub sets_turn : (t k : ℕ) → ℕ
+sets_turn t k = if k == 0 then t else t + 1
+
+abbrev pub sends_turn : (arcs t k : ℕ) → ℕ
+sends_turn arcs t k = if nat_le k (1 + 3 * arcs) then t else t + 1
+
+-- What a run says of the events told so far: they are all those before place k of tick t, and none of their arrivals is an
+-- alias; what is on the arcs, waits for them or stays in bridges is what they show; so many lines of the script are told;
+-- and so many frames were delivered and dropped.
+pub record Reaches (w : Scenario) (t k : ℕ) (h : History) (p : Progress) : Type 0 where
+  pub legal : LegalBefore w h (number (length w.net.arcs) t k)
   pub calls : List Call
   pub relay : relays.Stands p.relay w.net w.streams calls
-  pub lanes : LanesStand w h due p.lanes.items (inside w.net w.streams calls)
-  pub sends : AreSentBefore w due p.sent
+  pub lanes : LanesStand w h t k p.lanes.items (inside w.net w.streams calls)
+  pub sets : AreSetBefore w (sets_turn t k) p.set
+  pub sends : AreSentBefore w (sends_turn (length w.net.arcs) t k) p.sent
   pub deliveries : p.delivered ≡ length (Deliveries h)
   pub drops : p.dropped ≡ count_by is_dropped h

@@ -3,7 +3,7 @@ use Rattle.std.specs.Prelude.{◌≡◌, ℕ, ◌+◌, ◌≤◌, Bool, true, fa
 use Rattle.pre_base.specs.Faults.{Rose}
 use Rattle.pre_history.specs.History.{PlainEvent, History}
 use Rattle.pre_history.specs.Written.{IsWritten, AreWritten}
-use Rattle.pre_history.specs.Legal.{Legal}
+use Rattle.pre_history.specs.Legal.{Legal, FirstAliasAt}
 use Rattle.pre_sim.specs.declared.runs.Step.{Step}
 use Rattle.pre_sim.specs.declared.runs.Step.TheVariants.{More, Ended, Alias, Stopped, Memory}
 use Rattle.pre_sim.specs.Telling.{TellsAll}
@@ -19,11 +19,12 @@ is_more Memory = false
 
 -- What the watcher was told, by the watcher's relations before and after. The events of the tick follow those told so
 -- far; on Ended all of them are a legal history; where the run stopped early they are the front of one, with the event at
--- which the watcher failed at its end. No mPacket is changed on its way so far, so there is no alias.
+-- which the watcher failed at its end. Before an alias they are legal before the moment of that arrival, which is one of the tick.
 abbrev pub StepTells : SimView → Step → SimView → (List ℕ → History → Type 0) → (List ℕ → History → Type 0) → (List ℕ → History → PlainEvent → Type 0) → Type 0
 StepTells old More new took took' torn = (es : History) × TellsAll old.run.net took took' es × ((h : History) → HasTold old h → HasTold new (h ++ es))
 StepTells old Ended new took took' torn = (es : History) × TellsAll old.run.net took took' es × ((h : History) → HasTold old h → Legal old.run (h ++ es))
-StepTells old (Alias arc ordinal) new took took' torn = ⊥
+StepTells old (Alias arc ordinal) new took took' torn =
+    (es : History) × TellsAll old.run.net took took' es × ((h : History) → HasTold old h → (tick : ℕ) × FirstAliasAt old.run (h ++ es) tick arc.0 ordinal)
 StepTells old Stopped new took took' torn =
     (es : History) × (e : PlainEvent) × AreWritten old.run.net es × IsWritten old.run.net e × ((base : List ℕ) (h : History) → took base h → torn base (h ++ es) e)
     × ((h : History) → HasTold old h → IsFrontOfLegal old.run (h ++ (es ++ e ∷ [])))
@@ -33,7 +34,7 @@ StepTells old Memory new took took' torn = (es : History) × TellsAll old.run.ne
 abbrev pub StepMoves : Step → SimView → SimView → Type 0
 StepMoves More old new = (new.next ≡ old.next + 1) × (new.next ≤ new.run.script.until.0)
 StepMoves Ended old new = old.next ≡ old.run.script.until.0
-StepMoves (Alias arc ordinal) old new = ⊥
+StepMoves (Alias arc ordinal) old new = Unit {0}
 StepMoves Stopped old new = Unit {0}
 StepMoves Memory old new = Unit {0}
 

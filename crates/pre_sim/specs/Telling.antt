@@ -5,7 +5,7 @@ use Rattle.pre_topo.specs.declared.network.Network.{Network}
 use Rattle.pre_history.specs.History.{History}
 use Rattle.pre_history.specs.Written.{AreWritten}
 use Rattle.pre_sim.specs.declared.halts.Halt.{Halt}
-use Rattle.pre_sim.specs.declared.halts.Halt.TheVariants.{Stopped, Memory}
+use Rattle.pre_sim.specs.declared.halts.Halt.TheVariants.{Stopped, Memory, Alias}
 
 -- these events, which can be told over the network, were told, in order
 abbrev pub TellsAll : Network → (List ℕ → History → Type 0) → (List ℕ → History → Type 0) → History → Type 0
@@ -15,6 +15,7 @@ TellsAll net old new es = AreWritten net es × ((base : List ℕ) (h : History) 
 abbrev pub OnStopped : {T : Type 0} → Result T Halt → Type 0 → Type 0
 OnStopped (Ok x) P = Unit {0}
 OnStopped (Err Memory) P = Unit {0}
+OnStopped (Err (Alias arc ordinal)) P = Unit {0}
 OnStopped (Err Stopped) P = P
 
 pub record HasCause {T : Type 0} (before now : ℕ) (result : Result T Halt) : Type 0 where

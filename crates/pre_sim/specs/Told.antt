@@ -6,7 +6,7 @@ use Rattle.pre_history.specs.Scenario.{Scenario}
 use Rattle.pre_history.specs.History.{PlainEvent, History}
 use Rattle.pre_history.specs.Written.{IsWritten, AreWritten}
 use Rattle.pre_history.proofs.WrittenEvents.{AreWritten-append}
-use Rattle.pre_history.specs.Legal.{Legal}
+use Rattle.pre_history.specs.Legal.{Legal, FirstAliasAt}
 use Rattle.pre_sim.specs.Telling.{TellsAll}
 use Rattle.pre_sim.specs.Parts.{IsFrontOfLegal}
 use Rattle.pre_sim.specs.Views.{SimView, HasTold}
@@ -47,7 +47,12 @@ step_then s t u step.Ended a b c torn (es, told, same, goes) q = (
   tells_then s.run.net a b c es q.0 told (subst (λ (w : Scenario). TellsAll w.net b c q.0) same q.1),
   λ h has. subst (λ (w : Scenario). Legal w (h ++ (es ++ q.0))) same (subst (Legal t.run) (append_assoc h es q.0) (q.2 (h ++ es) (goes h has))),
 )
-step_then s t u (step.Alias arc ordinal) a b c torn p q = q
+step_then s t u (step.Alias arc ordinal) a b c torn (es, told, same, goes) q = (
+  es ++ q.0,
+  tells_then s.run.net a b c es q.0 told (subst (λ (w : Scenario). TellsAll w.net b c q.0) same q.1),
+  λ h has. subst (λ (w : Scenario). (tick : ℕ) × FirstAliasAt w (h ++ (es ++ q.0)) tick arc.0 ordinal) same
+      (subst (λ g. (tick : ℕ) × FirstAliasAt t.run g tick arc.0 ordinal) (append_assoc h es q.0) (q.2 (h ++ es) (goes h has))),
+)
 step_then s t u step.Memory a b c torn (es, told, same, goes) q = (
   es ++ q.0,
   tells_then s.run.net a b c es q.0 told (subst (λ (w : Scenario). TellsAll w.net b c q.0) same q.1),

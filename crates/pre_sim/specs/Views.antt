@@ -14,8 +14,8 @@ pub record SimView : Type 0 where
   pub next : ℕ
   pub going : Bool
 
--- These are the events that the run has told: they are legal before the first moment of the next tick, and the run stands
--- where they lead.
+-- These are the events that the run has told: they are legal before the first moment of the next tick, none of their arrivals is
+-- an alias, and the run stands where they lead.
 pub record HasTold (s : SimView) (h : History) : Type 0 where
   pub legal : LegalBefore s.run h (number (length s.run.net.arcs) s.next 0)
-  pub reaches : Reaches s.run s.next 0 s.next h s.progress
+  pub reaches : Reaches s.run s.next 0 h s.progress

@@ -1,18 +1,18 @@
-ghost use Rattle.std.specs.Prelude.{◌≡◌, ◌<◌, ◌≤◌, ◌++◌, IfOk, IfErr, length, drop, slice_get, Some};
-ghost use Rattle.pre_base.specs.declared.limits.TheConstants.{LEAST_FRAME, GREATEST_FRAME};
+ghost use Rattle.std.specs.Prelude.{◌≡◌, ◌<◌, ◌≤◌, IfOk, IfErr, length, slice_get, Some};
+ghost use Rattle.pre_base.specs.declared.limits.TheConstants.{GREATEST_FRAME};
 ghost use Rattle.pre_streams.specs.Rows.{IsRow};
-ghost use Rattle.pre_history.specs.Scenario.{row, send, FrameOf};
+ghost use Rattle.pre_history.specs.Scenario.{row, FrameOf};
 ghost use Rattle.pre_history.specs.Comings as comings;
 ghost use Rattle.pre_sim.specs.declared.halts.Halt.TheVariants.{Memory};
-ghost use Rattle.pre_sim.specs.Reach.{CanRun};
+ghost use Rattle.pre_sim.specs.Reach.{AllFit};
 ghost use Rattle.pre_sim.specs.Keeps.{IsFrameOf};
 ghost use Rattle.pre_sim.specs.Arriving.{IsStored};
 ghost use Rattle.pre_sim.specs.Parts.{scenario_of};
 
 use crate::halts::Halt;
 use crate::plans::Plan;
-use pre_base::{ArcId, FrameNo, GREATEST_FRAME, Prio};
-use pre_frame::build;
+use pre_base::{ArcId, FrameNo, GREATEST_FRAME};
+use pre_incoming::put_frame;
 use pre_rings::{FrameRef, FrameStore, Slot};
 use pre_streams::Row;
 use pre_topo::Network;
@@ -32,7 +32,7 @@ pub(crate) fn stored(store: &mut FrameStore, octets: &[u8]) -> Result<Slot, Halt
 
 /// The frame of a send of the script, in a slot of its own.
 pub(crate) fn frame_of(plan: &Plan, number: usize, store: &mut FrameStore) -> Result<FrameRef, Halt>
-    requires can { CanRun plan.now.net.now plan.now.streams.now plan.now.script.now }
+    requires fit { AllFit plan.now.net.now plan.now.streams.now plan.now.script.now }
     requires known { number < length plan.now.script.now.sends }
     ensures frame { IfOk result (λ f. IsFrameOf (scenario_of plan.now) store.new f) }
     ensures number { IfOk result (λ f. f.frame.0 ≡ number) }
@@ -40,64 +40,28 @@ pub(crate) fn frame_of(plan: &Plan, number: usize, store: &mut FrameStore) -> Re
     ensures memory { IfErr result (λ e. e ≡ Memory) }
 {
     let mut octets = [0u8; GREATEST_FRAME as usize];
-    let size = put_frame(plan, number, &mut octets);
+    let frame = FrameNo(number as u32);
+    let size = put_frame(&plan.inputs(), frame, &mut octets);
     let row = row_of(plan, number);
     let slot = stored(store, &octets[..size])?;
     Ok(FrameRef {
         slot,
-        frame: FrameNo(number as u32),
+        frame,
         size: size as u16,
-        prio: prio_of(row),
+        prio: row.prio,
         vid: row.vid,
     })
 }
 
-/// The octets of the frame of a send at the front of `into`: how many there are.
-fn put_frame(plan: &Plan, number: usize, into: &mut [u8; GREATEST_FRAME as usize]) -> usize
-    requires can { CanRun plan.now.net.now plan.now.streams.now plan.now.script.now }
-    requires known { number < length plan.now.script.now.sends }
-    ensures size { result ≡ (send (scenario_of plan.now) number).send.size }
-    ensures range { (LEAST_FRAME ≤ result) × (result ≤ GREATEST_FRAME) }
-    ensures octets { into.new ≡ FrameOf (scenario_of plan.now) number ++ drop result into.old }
-{
-    let size = plan.script.sends.as_slice()[number].send.size;
-    let row = row_of(plan, number);
-    let route = row.route.as_slice();
-    let destination = route[route.len() - 1];
-    let number = FrameNo(number as u32);
-    match build(
-        into,
-        destination,
-        route[0],
-        prio_of(row),
-        row.vid,
-        number,
-        size,
-    ) {
-        Ok(size) => size,
-        Err(_) => unreachable!(),
-    }
-}
-
 /// The row of a send of the script.
-fn row_of<'a>(plan: &Plan<'a>, number: usize) -> &'a Row
-    requires can { CanRun plan.now.net.now plan.now.streams.now plan.now.script.now }
+pub(crate) fn row_of<'a>(plan: &Plan<'a>, number: usize) -> &'a Row
+    requires fit { AllFit plan.now.net.now plan.now.streams.now plan.now.script.now }
     requires known { number < length plan.now.script.now.sends }
     ensures here { result.now ≡ row (scenario_of plan.now) number }
     ensures row { IsRow plan.now.net.now result.now }
 {
     let send = plan.script.sends.as_slice()[number].send;
     &plan.streams.rows.as_slice()[send.stream.0 as usize]
-}
-
-/// The priority of a row.
-fn prio_of(row: &Row) -> Prio
-    ensures same { result ≡ row.now.prio }
-    ensures below { result < 8 }
-{
-    let prio = row.prio;
-    prove!(prio.number() < 8);
-    prio
 }
 
 /// The first arc of a row's route.
@@ -112,7 +76,7 @@ fn first_of(net: &Network, row: &Row) -> ArcId
 
 /// The first arc of the route of a send of the script.
 pub(crate) fn first_arc(plan: &Plan, number: usize) -> ArcId
-    requires can { CanRun plan.now.net.now plan.now.streams.now plan.now.script.now }
+    requires fit { AllFit plan.now.net.now plan.now.streams.now plan.now.script.now }
     requires known { number < length plan.now.script.now.sends }
     ensures known { result.0 < length plan.now.net.now.arcs }
     ensures first { result.0 ≡ comings.first_arc (scenario_of plan.now) number }

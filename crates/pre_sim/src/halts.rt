@@ -1,3 +1,4 @@
+use pre_base::ArcId;
 use std::alloc::{AllocError, AllocFailed};
 
 /// Why a part of a run ended early.
@@ -5,6 +6,8 @@ use std::alloc::{AllocError, AllocFailed};
 pub(crate) enum Halt {
     /// The watcher failed.
     Stopped,
+    /// Before this arrival, which would give what wasn't sent as it.
+    Alias { arc: ArcId, ordinal: u64 },
     /// Want of memory.
     Memory,
 }

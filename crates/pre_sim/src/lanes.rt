@@ -1,109 +1,72 @@
-ghost use Rattle.std.specs.Prelude.{◌≡◌, ◌≢◌, ◌≤◌, IfOk, MatchOption, IsTrue, None, Some, [], ◌∷◌, ◌↔◌, List, length, drop, map, slice_get};
-ghost use Rattle.pre_rings.specs.Ports.{IsPort};
+ghost use Rattle.std.specs.Prelude.{◌≡◌, ◌≤◌, ◌^◌, IfOk, MatchOption, List, length};
+ghost use Rattle.pre_topo.specs.Arcs.{IsArc};
+ghost use Rattle.pre_topo.specs.declared.nodes.Node.{Node};
 ghost use Rattle.pre_sim.specs.Choices.{NoneWaits, LeavesFirst};
-ghost use Rattle.pre_sim.specs.Lanes.{IsIdle, AreIdle, Ends, Arrives, IsQuiet, IsFarOff};
+ghost use Rattle.pre_sim.specs.Lanes.{IsIdle, AreIdle};
 
-use pre_base::{FrameNo, Prio, Tick};
+use pre_base::Prio;
+use pre_incoming::Incoming;
+use pre_links::{Link, Partner};
+use pre_outgoing::Outgoing;
 use pre_rings::{FrameRef, PortRings};
-use pre_topo::Arc;
+use pre_script::Setting;
+use pre_topo::{Arc, Network, Timing};
 use std::alloc::{AllocError, Global};
 
-/// An mPacket that is being sent: its frame, its number on the arc, and the tick at which it ends.
-#[derive(Debug, Drop)]
-pub(crate) struct Sending {
-    pub frame: FrameRef,
-    pub ord: u64,
-    pub due: Tick,
-}
-
-/// An mPacket on the wire: what a bridge has to know of its frame, the octets as they left, its number on the arc, and the
-/// tick at which it arrives.
-#[derive(Debug, Drop)]
-pub(crate) struct Flight {
-    pub frame: FrameNo,
-    pub prio: Prio,
-    pub vid: u16,
-    pub octets: Vec<u8>,
-    pub ord: u64,
-    pub due: Tick,
-}
-
-/// What is on an arc or waits for it.
+/// What is on an arc or waits for it, and what its ends know.
 #[derive(Drop)]
 pub(crate) struct Lane {
     /// The frames that wait, in the arc's rings.
     pub rings: PortRings,
-    /// The mPacket that is being sent.
-    pub sending: Option<Sending>,
-    /// From this tick on the arc is free, where nothing is being sent.
-    pub free_from: Tick,
-    /// How many mPackets have begun.
-    pub begun: u64,
-    /// Those that have ended and haven't arrived.
-    pub flying: Vec<Flight>,
+    /// The sending end.
+    pub outgoing: Outgoing,
+    /// The wire and the receiving end.
+    pub incoming: Incoming,
+    /// What was received here of the partner that sends on this arc.
+    pub partner: Partner,
+    /// What the script has set the sending end to.
+    pub setting: Setting,
+    /// The state of the link, where the arc negotiates.
+    pub link: Link,
 }
 
 impl Lane {
-    /// Nothing is on the arc, and nothing waits in its rings, which have these capacities.
-    pub fn idle(alloc: Global, capacities: [u16; 8]) -> Result<Lane, AllocError>
-        ensures { IfOk result (IsIdle capacities) }
+    /// Nothing is on the arc, and nothing waits in its rings.
+    pub fn idle(alloc: Global, timing: &Timing, arc: &Arc) -> Result<Lane, AllocError>
+        requires cost { (1 ≤ arc.now.cost) × (arc.now.cost ≤ 1000) }
+        requires add_frag { arc.now.add_frag ≤ 3 }
+        requires unit { timing.now.unit ≤ 10 ^ 9 }
+        requires verify { timing.now.verify ≤ 10 ^ 12 }
+        ensures { IfOk result (IsIdle timing.now arc.now) }
     {
         Ok(Lane {
-            rings: PortRings::make(alloc, capacities)?,
-            sending: None,
-            free_from: Tick(0),
-            begun: 0,
-            flying: Vec::new(alloc),
+            rings: PortRings::make(alloc, arc.rings)?,
+            outgoing: Outgoing::idle(arc.cost, arc.add_frag),
+            incoming: Incoming::make(alloc)?,
+            partner: Partner::unheard(timing.unit),
+            setting: Setting::On,
+            link: Link::idle(timing.verify),
         })
-    }
-
-    pub fn is_free(&self, now: Tick) -> bool
-        ensures { IsTrue result ↔ ((self.now.sending ≡ None) × (self.now.free_from.0 ≤ now.0)) }
-    {
-        self.sending.is_none() && self.free_from <= now
-    }
-
-    /// Takes the mPacket that is being sent, where it ends at the tick.
-    pub fn take_ended(&mut self, now: Tick) -> Option<Sending>
-        ensures { MatchOption result (IsQuiet now.0 self.old self.new) (Ends now.0 self.old self.new) }
-    {
-        let is_due = match &self.sending {
-            Some(sending) => sending.due == now,
-            None => false,
-        };
-        if !is_due {
-            return None;
-        }
-        self.sending.take()
-    }
-
-    /// Takes the mPacket that arrives next, where it arrives at the tick.
-    pub fn take_arrival(&mut self, now: Tick) -> Option<Flight>
-        ensures { MatchOption result (IsFarOff now.0 self.old self.new) (Arrives now.0 self.old self.new) }
-    {
-        let due = self.flying.first()?.due;
-        if due != now {
-            return None;
-        }
-        Some(self.flying.remove(0))
     }
 }
 
 /// The lanes of a network at rest.
-pub(crate) fn idle_lanes(alloc: Global, arcs: &[Arc]) -> Result<Vec<Lane>, AllocError>
-    ensures { IfOk result (λ lanes. AreIdle arcs.now lanes.items) }
+pub(crate) fn idle_lanes(alloc: Global, net: &Network) -> Result<Vec<Lane>, AllocError>
+    ensures { IfOk result (λ lanes. AreIdle net.now lanes.items) }
 {
+    let arcs = net.arcs.as_slice();
     let mut lanes = Vec::with_capacity(alloc, arcs.len())?;
     for arc in arcs {
-        lanes.push(Lane::idle(alloc, arc.rings)?)?;
+        lanes.push(Lane::idle(alloc, &net.timing, arc)?)?;
     }
     Ok(lanes)
 }
 
-/// Takes the front frame of the highest ring with a frame, from the least priority on.
-pub(crate) fn take_first(rings: &mut PortRings, least: Prio) -> Option<FrameRef>
-    ensures { MatchOption result (NoneWaits least rings.old × (rings.new ≡ rings.old)) (LeavesFirst least rings.old rings.new) }
+/// Takes the front frame of the highest ring with a frame, from the least priority up to the greatest one.
+pub(crate) fn take_first(rings: &mut PortRings, least: Prio, greatest: Prio) -> Option<FrameRef>
+    requires { greatest ≤ 7 }
+    ensures { MatchOption result (NoneWaits least greatest rings.old × (rings.new ≡ rings.old)) (LeavesFirst least greatest rings.old rings.new) }
 {
-    let prio = rings.highest(least, Prio(7))?;
+    let prio = rings.highest(least, greatest)?;
     rings.leave(prio)
 }

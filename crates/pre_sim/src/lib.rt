@@ -1,18 +1,20 @@
 //! The run of a script over a network, tick by tick.
 #![tactic(auto)]
 
-mod arcs;
+mod arrivals;
+mod closing;
+mod ends;
+mod entering;
+mod expiries;
 mod frames;
 mod halts;
 mod lanes;
-mod laws;
-mod phases;
 mod plans;
 mod runs;
+mod starts;
 mod telling;
 mod ticks;
 
-pub use laws::runs_are_plain;
 pub use runs::{Sim, Step};
 
 #[cfg(test)]

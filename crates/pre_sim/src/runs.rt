@@ -1,5 +1,5 @@
 ghost use Rattle.std.specs.Prelude.{◌≡◌, ◌≤◌, ◌+◌, IfOk, length, vec_len, true};
-ghost use Rattle.pre_sim.specs.Reach.{CanRun};
+ghost use Rattle.pre_sim.specs.Reach.{AllFit};
 
 use crate::halts::Halt;
 use crate::lanes::idle_lanes;
@@ -11,7 +11,7 @@ use pre_rings::FrameStore;
 use pre_script::Script;
 use pre_streams::Streams;
 use pre_topo::Network;
-use pre_trace::{Watcher, direct_arrivals};
+use pre_trace::Watcher;
 use std::alloc::{AllocError, Global};
 use std::marker::Model;
 
@@ -42,14 +42,15 @@ pub struct Sim<'a> {
 impl<'a> Model for Sim<'a> {
     ghost use Rattle.std.specs.Prelude.{◌≡◌, ◌≤◌, length, vec_len, true};
     ghost use Rattle.pre_sim.specs.Views.{SimView};
-    ghost use Rattle.pre_sim.specs.Reach.{CanRun, IsWithin};
-    ghost use Rattle.pre_sim.specs.Keeps.{IsKept};
+    ghost use Rattle.pre_sim.specs.Reach.{AllFit, IsWithin};
+    ghost use Rattle.pre_sim.specs.Keeps.{IsKept, AreReady};
+    ghost use Rattle.pre_sim.specs.Parts.{IsReached};
 
     ghost Value = { SimView };
 
     ghost view = { λ s. record { run = record { net = s.plan.net.now; streams = s.plan.streams.now; script = s.plan.script.now }; progress = s.progress; next = s.next.0; going = s.going } };
 
-    ghost invariant = { λ s. CanRun s.plan.net.now s.plan.streams.now s.plan.script.now × (vec_len s.progress.lanes ≡ length s.plan.net.now.arcs) × (s.next.0 ≤ s.plan.script.now.until.0) × (s.going ≡ true → IsWithin s.next.0 s.progress × IsKept (record { net = s.plan.net.now; streams = s.plan.streams.now; script = s.plan.script.now }) s.next.0 s.progress) };
+    ghost invariant = { λ s. AllFit s.plan.net.now s.plan.streams.now s.plan.script.now × (vec_len s.progress.lanes ≡ length s.plan.net.now.arcs) × (s.next.0 ≤ s.plan.script.now.until.0) × (s.going ≡ true → IsWithin s.next.0 s.progress × IsKept (record { net = s.plan.net.now; streams = s.plan.streams.now; script = s.plan.script.now }) s.next.0 s.progress × AreReady s.next.0 s.progress.lanes.items × IsReached (record { net = s.plan.net.now; streams = s.plan.streams.now; script = s.plan.script.now }) s.next.0 0 s.progress) };
 }
 
 impl<'a> Sim<'a> {
@@ -64,10 +65,9 @@ impl<'a> Sim<'a> {
         streams: &'a Streams,
         script: &'a Script,
     ) -> Result<Sim<'a>, AllocError>
-        requires { CanRun net.now streams.now script.now }
+        requires { AllFit net.now streams.now script.now }
         ensures { IfOk result (λ s. (s.run ≡ record { net = net.now; streams = streams.now; script = script.now }) × (s.next ≡ 0) × (s.going ≡ true) × HasTold s []) }
     {
-        direct_arrivals();
         Ok(Sim {
             plan: Plan {
                 alloc,
@@ -76,9 +76,10 @@ impl<'a> Sim<'a> {
                 script,
             },
             progress: Progress {
-                lanes: idle_lanes(alloc, net.arcs.as_slice())?,
+                lanes: idle_lanes(alloc, net)?,
                 relay: Relay::make(alloc, net, streams)?,
                 store: FrameStore::make(alloc, net.slots() as u16)?,
+                set: 0,
                 sent: 0,
                 delivered: 0,
                 dropped: 0,
@@ -105,7 +106,6 @@ impl<'a> Sim<'a> {
         ensures cause { StepCause result (W.faults watcher.old) (W.faults watcher.new) }
         ensures same { W.same watcher.old watcher.new }
     {
-        direct_arrivals();
         let now = self.next;
         match advance(&self.plan, now, &mut self.progress, watcher) {
             Ok(false) => {
@@ -119,6 +119,10 @@ impl<'a> Sim<'a> {
             Err(Halt::Stopped) => {
                 self.going = false;
                 Step::Stopped
+            }
+            Err(Halt::Alias { arc, ordinal }) => {
+                self.going = false;
+                Step::Alias { arc, ordinal }
             }
             Err(Halt::Memory) => {
                 self.going = false;

@@ -1,36 +1,70 @@
-ghost use Rattle.std.specs.Prelude.{◌≡◌, ◌↔◌, ◌≤◌, ◌+◌, ◌*◌, ◌^◌, IfOk, OnOk, IsTrue, length, vec_len, count_by, nat_le};
+ghost use Rattle.std.specs.Prelude.{◌≡◌, ◌↔◌, ◌≤◌, ◌+◌, ◌*◌, ◌^◌, IfOk, OnOk, IsTrue, length, vec_len};
 ghost use Rattle.pre_sim.specs.Telling.{HasCause};
-ghost use Rattle.pre_sim.specs.Parts.{TellsPart, TellsOne, SendsPart, SendsFront, EntriesPart, EntriesFront, Carries, CarriesFront, TickPart, TickFront, AdvancePart, AdvanceFront, closing_event, scenario_of};
-ghost use Rattle.pre_sim.specs.Reach.{CanRun, IsWithin};
-ghost use Rattle.pre_sim.specs.Keeps.{IsKept};
+ghost use Rattle.pre_sim.specs.Parts.{TellsPart, NoArrival, SetsPart, SetsFront, SendsPart, SendsFront, EntriesPart, EntriesFront, Carries, CarriesFront, CarriesAlias, IsReached, TickPart, TickFront, AdvancePart, AdvanceFront, scenario_of};
+ghost use Rattle.pre_sim.specs.Reach.{AllFit, IsWithin};
+ghost use Rattle.pre_sim.specs.Keeps.{IsKept, AreReady, AreSettled, SameLinks};
 
+use crate::arrivals::arrivals;
+use crate::closing::close;
+use crate::ends::ends;
+use crate::entering::{relays, send};
+use crate::expiries::expiries;
 use crate::halts::Halt;
 use crate::lanes::Lane;
-use crate::phases::{arrivals, ends, relays, send, starts};
 use crate::plans::Plan;
+use crate::starts::starts;
 use crate::telling::tell;
 use pre_base::Tick;
 use pre_bridge::{Relay, takes_law};
+use pre_history::{events_before_their_end, mpackets_in_order};
 use pre_rings::FrameStore;
-use pre_script::Script;
-use pre_trace::{
-    Event, Watcher, deliveries_are_what_was_sent, direct_arrivals, events_before_their_end,
-    frames_come_once, mpackets_in_order,
-};
+use pre_trace::{Event, Watcher};
 
 /// How far a run is.
 #[derive(Drop)]
 pub(crate) struct Progress {
-    /// What is on each arc or waits for it.
+    /// What is on each arc or waits for it, and what its ends know.
     pub lanes: Vec<Lane>,
     /// The frames inside the bridges.
     pub relay: Relay,
     /// The octets of all frames that wait, are being sent or are inside a bridge.
     pub store: FrameStore,
+    /// How many `set` lines are over.
+    pub set: usize,
     /// How many sends are over.
     pub sent: usize,
     pub delivered: u64,
     pub dropped: u64,
+}
+
+/// What the script sets at a tick.
+fn sets<W: Watcher>(
+    plan: &Plan,
+    now: Tick,
+    progress: &mut Progress,
+    watcher: &mut W,
+) -> Result<(), Halt>
+    requires fit { AllFit plan.now.net.now plan.now.streams.now plan.now.script.now }
+    requires lanes { vec_len progress.old.lanes ≡ length plan.now.net.now.arcs }
+    ensures lanes { vec_len progress.new.lanes ≡ length plan.now.net.now.arcs }
+    ensures links { SameLinks progress.old.lanes.items progress.new.lanes.items }
+    ensures part { TellsPart plan.now.net.now result (W.took watcher.old) (W.took watcher.new) (W.torn watcher.new) (λ x es. SetsPart (scenario_of plan.now) now.0 progress.old progress.new es) (SetsFront (scenario_of plan.now) now.0 progress.old) NoArrival }
+    ensures cause { HasCause (W.faults watcher.old) (W.faults watcher.new) result }
+    ensures same { W.same watcher.old watcher.new }
+{
+    let lines = plan.script.sets.as_slice();
+    while progress.set < lines.len() && lines[progress.set].tick == now {
+        let line = lines[progress.set];
+        progress.set += 1;
+        progress.lanes[usize::from(line.arc.0)].setting = line.value;
+        let set = Event::Set {
+            tick: now,
+            arc: line.arc,
+            value: line.value,
+        };
+        tell(plan.net, watcher, &set)?;
+    }
+    Ok(())
 }
 
 /// The sends of a tick, in the order of their frames.
@@ -40,7 +74,7 @@ fn sends<W: Watcher>(
     progress: &mut Progress,
     watcher: &mut W,
 ) -> Result<(), Halt>
-    requires can { CanRun plan.now.net.now plan.now.streams.now plan.now.script.now }
+    requires fit { AllFit plan.now.net.now plan.now.streams.now plan.now.script.now }
     requires now { now.0 ≤ 4 * 10 ^ 12 }
     requires lanes { vec_len progress.old.lanes ≡ length plan.now.net.now.arcs }
     requires counts { IsWithin (now.0 + 1) progress.old }
@@ -48,7 +82,8 @@ fn sends<W: Watcher>(
     ensures lanes { vec_len progress.new.lanes ≡ length plan.now.net.now.arcs }
     ensures counts { IsWithin (now.0 + 1) progress.new }
     ensures kept { OnOk result (IsKept (scenario_of plan.now) now.0 progress.new) }
-    ensures part { TellsPart plan.now.net.now result (W.took watcher.old) (W.took watcher.new) (W.torn watcher.new) (λ x es. SendsPart (scenario_of plan.now) now.0 progress.old progress.new es) (SendsFront (scenario_of plan.now) now.0 progress.old) }
+    ensures links { SameLinks progress.old.lanes.items progress.new.lanes.items }
+    ensures part { TellsPart plan.now.net.now result (W.took watcher.old) (W.took watcher.new) (W.torn watcher.new) (λ x es. SendsPart (scenario_of plan.now) now.0 progress.old progress.new es) (SendsFront (scenario_of plan.now) now.0 progress.old) NoArrival }
     ensures cause { HasCause (W.faults watcher.old) (W.faults watcher.new) result }
     ensures same { W.same watcher.old watcher.new }
 {
@@ -76,7 +111,7 @@ fn entries<W: Watcher>(
     progress: &mut Progress,
     watcher: &mut W,
 ) -> Result<(), Halt>
-    requires can { CanRun plan.now.net.now plan.now.streams.now plan.now.script.now }
+    requires fit { AllFit plan.now.net.now plan.now.streams.now plan.now.script.now }
     requires now { now.0 ≤ 4 * 10 ^ 12 }
     requires lanes { vec_len progress.old.lanes ≡ length plan.now.net.now.arcs }
     requires counts { IsWithin now.0 progress.old }
@@ -84,13 +119,13 @@ fn entries<W: Watcher>(
     ensures lanes { vec_len progress.new.lanes ≡ length plan.now.net.now.arcs }
     ensures counts { IsWithin (now.0 + 1) progress.new }
     ensures kept { OnOk result (IsKept (scenario_of plan.now) now.0 progress.new) }
-    ensures part { TellsPart plan.now.net.now result (W.took watcher.old) (W.took watcher.new) (W.torn watcher.new) (λ x es. EntriesPart (scenario_of plan.now) now.0 progress.old progress.new es) (EntriesFront (scenario_of plan.now) now.0 progress.old) }
+    ensures links { SameLinks progress.old.lanes.items progress.new.lanes.items }
+    ensures part { TellsPart plan.now.net.now result (W.took watcher.old) (W.took watcher.new) (W.torn watcher.new) (λ x es. EntriesPart (scenario_of plan.now) now.0 progress.old progress.new es) (EntriesFront (scenario_of plan.now) now.0 progress.old) NoArrival }
     ensures cause { HasCause (W.faults watcher.old) (W.faults watcher.new) result }
     ensures same { W.same watcher.old watcher.new }
 {
     mpackets_in_order();
     events_before_their_end();
-    frames_come_once();
     takes_law();
     let lost = relays(
         plan,
@@ -104,25 +139,28 @@ fn entries<W: Watcher>(
     sends(plan, now, progress, watcher)
 }
 
-/// What ends and arrives at a tick.
+/// What is set, ends, arrives and expires at a tick.
 fn land<W: Watcher>(
     plan: &Plan,
     now: Tick,
     progress: &mut Progress,
     watcher: &mut W,
 ) -> Result<(), Halt>
-    requires can { CanRun plan.now.net.now plan.now.streams.now plan.now.script.now }
+    requires fit { AllFit plan.now.net.now plan.now.streams.now plan.now.script.now }
     requires now { now.0 ≤ 4 * 10 ^ 12 }
     requires lanes { vec_len progress.old.lanes ≡ length plan.now.net.now.arcs }
     requires kept { IsKept (scenario_of plan.now) now.0 progress.old }
+    requires ready { AreReady now.0 progress.old.lanes.items }
+    requires reached { IsReached (scenario_of plan.now) now.0 0 progress.old }
     ensures lanes { vec_len progress.new.lanes ≡ length plan.now.net.now.arcs }
     ensures counts { (progress.new.sent ≡ progress.old.sent) × (progress.new.dropped ≡ progress.old.dropped) }
     ensures kept { OnOk result (IsKept (scenario_of plan.now) now.0 progress.new) }
-    ensures part { TellsPart plan.now.net.now result (W.took watcher.old) (W.took watcher.new) (W.torn watcher.new) (λ x es. Carries (scenario_of plan.now) now.0 0 now.0 now.0 (1 + 3 * length plan.now.net.now.arcs) now.0 progress.old progress.new es) (CarriesFront (scenario_of plan.now) now.0 0 now.0 progress.old) }
+    ensures settled { OnOk result (AreSettled now.0 progress.new.lanes.items) }
+    ensures part { TellsPart plan.now.net.now result (W.took watcher.old) (W.took watcher.new) (W.torn watcher.new) (λ x es. Carries (scenario_of plan.now) now.0 0 now.0 (1 + 3 * length plan.now.net.now.arcs) progress.old progress.new es) (CarriesFront (scenario_of plan.now) now.0 0 progress.old) (CarriesAlias (scenario_of plan.now) now.0 0 progress.old) }
     ensures cause { HasCause (W.faults watcher.old) (W.faults watcher.new) result }
     ensures same { W.same watcher.old watcher.new }
 {
-    deliveries_are_what_was_sent();
+    sets(plan, now, progress, watcher)?;
     let Progress {
         lanes,
         relay,
@@ -131,6 +169,7 @@ fn land<W: Watcher>(
     } = progress;
     ends(plan, now, lanes, store, watcher)?;
     let delivered = arrivals(plan, now, lanes, relay, store, watcher)?;
+    expiries(plan, now, lanes, watcher)?;
     progress.delivered = progress.delivered.saturating_add(delivered);
     Ok(())
 }
@@ -142,15 +181,17 @@ fn leave<W: Watcher>(
     progress: &mut Progress,
     watcher: &mut W,
 ) -> Result<(), Halt>
-    requires can { CanRun plan.now.net.now plan.now.streams.now plan.now.script.now }
+    requires fit { AllFit plan.now.net.now plan.now.streams.now plan.now.script.now }
     requires now { now.0 ≤ 4 * 10 ^ 12 }
     requires lanes { vec_len progress.old.lanes ≡ length plan.now.net.now.arcs }
     requires counts { IsWithin now.0 progress.old }
     requires kept { IsKept (scenario_of plan.now) now.0 progress.old }
+    requires settled { AreSettled now.0 progress.old.lanes.items }
     ensures lanes { vec_len progress.new.lanes ≡ length plan.now.net.now.arcs }
     ensures counts { IsWithin (now.0 + 1) progress.new }
     ensures kept { OnOk result (IsKept (scenario_of plan.now) now.0 progress.new) }
-    ensures part { TellsPart plan.now.net.now result (W.took watcher.old) (W.took watcher.new) (W.torn watcher.new) (λ x es. Carries (scenario_of plan.now) now.0 (1 + 3 * length plan.now.net.now.arcs) now.0 (now.0 + 1) 0 (now.0 + 1) progress.old progress.new es) (CarriesFront (scenario_of plan.now) now.0 (1 + 3 * length plan.now.net.now.arcs) now.0 progress.old) }
+    ensures settled { OnOk result (AreSettled now.0 progress.new.lanes.items) }
+    ensures part { TellsPart plan.now.net.now result (W.took watcher.old) (W.took watcher.new) (W.torn watcher.new) (λ x es. Carries (scenario_of plan.now) now.0 (1 + 3 * length plan.now.net.now.arcs) (now.0 + 1) 0 progress.old progress.new es) (CarriesFront (scenario_of plan.now) now.0 (1 + 3 * length plan.now.net.now.arcs) progress.old) NoArrival }
     ensures cause { HasCause (W.faults watcher.old) (W.faults watcher.new) result }
     ensures same { W.same watcher.old watcher.new }
 {
@@ -165,15 +206,18 @@ fn run_tick<W: Watcher>(
     progress: &mut Progress,
     watcher: &mut W,
 ) -> Result<(), Halt>
-    requires can { CanRun plan.now.net.now plan.now.streams.now plan.now.script.now }
+    requires fit { AllFit plan.now.net.now plan.now.streams.now plan.now.script.now }
     requires now { now.0 ≤ 4 * 10 ^ 12 }
     requires lanes { vec_len progress.old.lanes ≡ length plan.now.net.now.arcs }
     requires counts { IsWithin now.0 progress.old }
     requires kept { IsKept (scenario_of plan.now) now.0 progress.old }
+    requires ready { AreReady now.0 progress.old.lanes.items }
+    requires reached { IsReached (scenario_of plan.now) now.0 0 progress.old }
     ensures lanes { vec_len progress.new.lanes ≡ length plan.now.net.now.arcs }
     ensures counts { IsWithin (now.0 + 1) progress.new }
     ensures kept { OnOk result (IsKept (scenario_of plan.now) now.0 progress.new) }
-    ensures part { TellsPart plan.now.net.now result (W.took watcher.old) (W.took watcher.new) (W.torn watcher.new) (λ x es. TickPart (scenario_of plan.now) now.0 progress.old progress.new es) (TickFront (scenario_of plan.now) now.0 progress.old) }
+    ensures ready { OnOk result (AreReady (now.0 + 1) progress.new.lanes.items) }
+    ensures part { TellsPart plan.now.net.now result (W.took watcher.old) (W.took watcher.new) (W.torn watcher.new) (λ x es. TickPart (scenario_of plan.now) now.0 progress.old progress.new es) (TickFront (scenario_of plan.now) now.0 progress.old) (CarriesAlias (scenario_of plan.now) now.0 0 progress.old) }
     ensures cause { HasCause (W.faults watcher.old) (W.faults watcher.new) result }
     ensures same { W.same watcher.old watcher.new }
 {
@@ -181,55 +225,29 @@ fn run_tick<W: Watcher>(
     leave(plan, now, progress, watcher)
 }
 
-/// How many sends of the script aren't later than its end.
-fn count_sent(script: &Script) -> u64
-    ensures { result ≡ count_by (λ s. nat_le s.send.tick.0 script.now.until.0) script.now.sends }
-{
-    let until = script.until;
-    script
-        .sends
-        .as_slice()
-        .iter()
-        .filter(|line| line.send.tick <= until)
-        .count() as u64
-}
-
-/// The last event of a run.
-fn close<W: Watcher>(plan: &Plan, progress: &Progress, watcher: &mut W) -> Result<(), Halt>
-    ensures one { TellsOne plan.now.net.now result (W.took watcher.old) (W.took watcher.new) (W.torn watcher.new) (closing_event (scenario_of plan.now) progress.now) }
-    ensures cause { HasCause (W.faults watcher.old) (W.faults watcher.new) result }
-    ensures same { W.same watcher.old watcher.new }
-{
-    let finish = Event::Finish {
-        until: plan.script.until,
-        sent: count_sent(plan.script),
-        delivered: progress.delivered,
-        dropped: progress.dropped,
-    };
-    tell(plan.net, watcher, &finish)
-}
-
-/// A tick, and behind the last one the closing event: whether that was it.
+/// A tick, and behind the last one the closing events: whether that was it.
 pub(crate) fn advance<W: Watcher>(
     plan: &Plan,
     now: Tick,
     progress: &mut Progress,
     watcher: &mut W,
 ) -> Result<bool, Halt>
-    requires can { CanRun plan.now.net.now plan.now.streams.now plan.now.script.now }
+    requires fit { AllFit plan.now.net.now plan.now.streams.now plan.now.script.now }
     requires now { now.0 ≤ 4 * 10 ^ 12 }
     requires lanes { vec_len progress.old.lanes ≡ length plan.now.net.now.arcs }
     requires counts { IsWithin now.0 progress.old }
     requires kept { IsKept (scenario_of plan.now) now.0 progress.old }
+    requires ready { AreReady now.0 progress.old.lanes.items }
+    requires reached { IsReached (scenario_of plan.now) now.0 0 progress.old }
     ensures lanes { vec_len progress.new.lanes ≡ length plan.now.net.now.arcs }
     ensures counts { IsWithin (now.0 + 1) progress.new }
     ensures kept { OnOk result (IsKept (scenario_of plan.now) now.0 progress.new) }
+    ensures ready { OnOk result (AreReady (now.0 + 1) progress.new.lanes.items) }
     ensures last { IfOk result (λ last. IsTrue last ↔ (now ≡ plan.now.script.now.until)) }
-    ensures part { TellsPart plan.now.net.now result (W.took watcher.old) (W.took watcher.new) (W.torn watcher.new) (λ last es. AdvancePart (scenario_of plan.now) now.0 progress.old progress.new last es) (AdvanceFront (scenario_of plan.now) now.0 progress.old) }
+    ensures part { TellsPart plan.now.net.now result (W.took watcher.old) (W.took watcher.new) (W.torn watcher.new) (λ last es. AdvancePart (scenario_of plan.now) now.0 progress.old progress.new last es) (AdvanceFront (scenario_of plan.now) now.0 progress.old) (CarriesAlias (scenario_of plan.now) now.0 0 progress.old) }
     ensures cause { HasCause (W.faults watcher.old) (W.faults watcher.new) result }
     ensures same { W.same watcher.old watcher.new }
 {
-    direct_arrivals();
     run_tick(plan, now, progress, watcher)?;
     if now != plan.script.until {
         return Ok(false);

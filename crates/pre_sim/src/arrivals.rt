@@ -1,0 +1,231 @@
+ghost use Rattle.std.specs.Prelude.{◌≡◌, ◌<◌, ◌≤◌, ◌+◌, ◌*◌, ◌^◌, IfOk, IfErr, IfSome, IsNone, ◌↔◌, List, [], None, length};
+ghost use Rattle.pre_incoming.specs.declared.landings.Landed.TheVariants.{Alias, Lldp};
+ghost use Rattle.pre_base.specs.declared.limits.TheConstants.{GREATEST_FRAME};
+ghost use Rattle.pre_history.specs.Scenario.{FrameOf};
+ghost use Rattle.pre_history.specs.Rules.{arrival};
+ghost use Rattle.pre_incoming.specs.Landings.{HoldsFrame, result_of};
+ghost use Rattle.pre_bridge.specs.Inside.{Call, Entry};
+ghost use Rattle.pre_bridge.specs.Relays.{Stands};
+ghost use Rattle.pre_sim.specs.declared.halts.Halt.TheVariants.{Memory};
+ghost use Rattle.pre_history.specs.Moments.{Phase};
+ghost use Rattle.pre_sim.specs.Telling.{HasCause};
+ghost use Rattle.pre_sim.specs.Reach.{AllFit};
+ghost use Rattle.pre_sim.specs.Keeps.{Keeps, LaneKeeps, AreReady};
+ghost use Rattle.pre_sim.specs.Arriving.{KeepsInside, Listens, delivered_at};
+ghost use Rattle.pre_sim.specs.Parts.{TellsPart, TellsOne, LaneFront, LaneReached, LaneAlias, ArrivalPart, ArrivalsPart, ArrivalsAlias, LanesFront, LanesReached, scenario_of, count_of};
+
+use crate::frames::{row_of, stored};
+use crate::halts::Halt;
+use crate::lanes::Lane;
+use crate::plans::{Plan, arc_at};
+use crate::telling::tell;
+use pre_base::{ArcId, FrameNo, GREATEST_FRAME, Tick};
+use pre_bridge::{Relay, route_law};
+use pre_history::{events_before_their_end, mpackets_in_order};
+
+use pre_incoming::Landed;
+use pre_links::Partner;
+use pre_rings::{FrameRef, FrameStore};
+use pre_topo::Network;
+use pre_trace::{Event, Outcome, Watcher};
+
+/// The arrival of an mPacket at the end of an arc, where one is due: whether its frame was delivered.
+pub(crate) fn arrive_on<W: Watcher>(
+    plan: &Plan,
+    now: Tick,
+    arc: ArcId,
+    lane: &mut Lane,
+    relay: &mut Relay,
+    store: &mut FrameStore,
+    watcher: &mut W,
+) -> Result<bool, Halt>
+    requires arc { arc.0 < length plan.now.net.now.arcs }
+    requires now { now.0 ≤ 4 * 10 ^ 12 }
+    requires fit { AllFit plan.now.net.now plan.now.streams.now plan.now.script.now }
+    requires keeps { LaneKeeps (scenario_of plan.now) store.old arc.0 lane.old }
+    requires reached { LaneReached (scenario_of plan.now) now.0 (Phase.arrivals arc.0) arc.0 None lane.old }
+    requires stands { (calls : List Call) × Stands relay.old plan.now.net.now plan.now.streams.now calls }
+    requires latest { relay.old.latest.0 ≤ now.0 }
+    ensures part { TellsPart plan.now.net.now result (W.took watcher.old) (W.took watcher.new) (W.torn watcher.new) (λ x es. ArrivalPart (scenario_of plan.now) now.0 arc.0 (count_of x) store.old store.new relay.old relay.new lane.old lane.new es) (LaneFront (scenario_of plan.now) now.0 (Phase.arrivals arc.0) arc.0 None lane.old) (LaneAlias (scenario_of plan.now) now.0 (Phase.arrivals arc.0) arc.0 None lane.old) }
+    ensures link { lane.new.link ≡ lane.old.link }
+    ensures latest { relay.new.latest.0 ≤ now.0 }
+    ensures cause { HasCause (W.faults watcher.old) (W.faults watcher.new) result }
+    ensures same { W.same watcher.old watcher.new }
+{
+    mpackets_in_order();
+    events_before_their_end();
+    route_law();
+    let mut octets = [0u8; GREATEST_FRAME as usize];
+    let Some(landing) = lane.incoming.land(&plan.inputs(), now, arc, &mut octets) else {
+        return Ok(false);
+    };
+    let octets = &octets[..landing.size];
+    let ordinal = landing.ord;
+    let Some(outcome) = outcome_of(landing.given) else {
+        return Err(Halt::Alias { arc, ordinal });
+    };
+    listen(&mut lane.partner, now, landing.given, octets);
+    tell_arrival(plan.net, now, arc, ordinal, outcome, watcher)?;
+    let Landed::Frame(frame) = landing.given else {
+        return Ok(false);
+    };
+    if keep_inside(plan, now, arc, frame, octets, relay, store)? {
+        return Ok(false);
+    }
+    deliver(plan.net, now, arc, frame, octets, watcher)?;
+    Ok(true)
+}
+
+/// The result that a trace tells; an alias has none.
+fn outcome_of(given: Landed) -> Option<Outcome>
+    ensures some { IfSome result (λ r. r ≡ result_of given) }
+    ensures none { IsNone result ↔ (given ≡ Alias) }
+{
+    match given {
+        Landed::Lost => Some(Outcome::Lost),
+        Landed::Frame(_) => Some(Outcome::Frame),
+        Landed::Lldp => Some(Outcome::Lldp),
+        Landed::Part => Some(Outcome::Part),
+        Landed::Verify => Some(Outcome::Verify),
+        Landed::Respond => Some(Outcome::Respond),
+        Landed::Nothing => Some(Outcome::Nothing),
+        Landed::Alias => None,
+    }
+}
+
+/// Keeps what an arrival says of the partner.
+fn listen(partner: &mut Partner, now: Tick, given: Landed, octets: &[u8])
+    requires now { now.0 ≤ 10 ^ 18 }
+    requires size { (given ≡ Lldp) → 18 ≤ length octets.now }
+    ensures { Listens now.0 given octets.now partner.old partner.new }
+{
+    match given {
+        Landed::Lldp => partner.lldp(now, octets),
+        Landed::Verify => partner.verify(now),
+        Landed::Respond => partner.respond(now),
+        Landed::Lost
+        | Landed::Frame(_)
+        | Landed::Part
+        | Landed::Nothing
+        | Landed::Alias => {}
+    }
+}
+
+/// Puts the frame of an arrival into the bridge, where a route goes on with it: whether one does.
+fn keep_inside(
+    plan: &Plan,
+    now: Tick,
+    arc: ArcId,
+    frame: FrameNo,
+    octets: &[u8],
+    relay: &mut Relay,
+    store: &mut FrameStore,
+) -> Result<bool, Halt>
+    requires now { now.0 ≤ 4 * 10 ^ 12 }
+    requires fit { AllFit plan.now.net.now plan.now.streams.now plan.now.script.now }
+    requires known { frame.0 < length plan.now.script.now.sends }
+    requires octets { octets.now ≡ FrameOf (scenario_of plan.now) frame.0 }
+    requires latest { relay.old.latest.0 ≤ now.0 }
+    ensures inside { IfOk result (KeepsInside (scenario_of plan.now) now.0 arc.0 frame store.old store.new relay.old relay.new) }
+    ensures memory { IfErr result (λ e. e ≡ Memory) }
+    ensures latest { relay.new.latest.0 ≤ now.0 }
+{
+    if !relay.room(arc) {
+        return Err(Halt::Memory);
+    }
+    let row = row_of(plan, frame.0 as usize);
+    let kept = FrameRef {
+        slot: stored(store, octets)?,
+        frame,
+        size: octets.len() as u16,
+        prio: row.prio,
+        vid: row.vid,
+    };
+    match relay.deliver(now, arc, kept) {
+        Ok(()) => Ok(true),
+        Err(kept) => {
+            store.give_back(kept.slot);
+            Ok(false)
+        }
+    }
+}
+
+/// The event of an arrival.
+fn tell_arrival<W: Watcher>(
+    net: &Network,
+    now: Tick,
+    arc: ArcId,
+    ord: u64,
+    outcome: Outcome,
+    watcher: &mut W,
+) -> Result<(), Halt>
+    requires arc { arc.0 < length net.now.arcs }
+    ensures one { TellsOne net.now result (W.took watcher.old) (W.took watcher.new) (W.torn watcher.new) (arrival now.0 arc.0 ord outcome) }
+    ensures cause { HasCause (W.faults watcher.old) (W.faults watcher.new) result }
+    ensures same { W.same watcher.old watcher.new }
+{
+    let arrive = Event::Arrive {
+        tick: now,
+        arc,
+        ord,
+        result: outcome,
+    };
+    tell(net, watcher, &arrive)
+}
+
+/// A frame's delivery at the end of an arc.
+fn deliver<W: Watcher>(
+    net: &Network,
+    now: Tick,
+    arc: ArcId,
+    frame: FrameNo,
+    octets: &[u8],
+    watcher: &mut W,
+) -> Result<(), Halt>
+    requires arc { arc.0 < length net.now.arcs }
+    requires size { (1 ≤ length octets.now) × (length octets.now ≤ GREATEST_FRAME) }
+    ensures one { TellsOne net.now result (W.took watcher.old) (W.took watcher.new) (W.torn watcher.new) (delivered_at net.now now.0 arc.0 frame octets.now) }
+    ensures cause { HasCause (W.faults watcher.old) (W.faults watcher.new) result }
+    ensures same { W.same watcher.old watcher.new }
+{
+    let link = arc_at(net, arc);
+    let deliver = Event::Deliver {
+        tick: now,
+        node: link.to,
+        frame,
+        hex: octets,
+    };
+    tell(net, watcher, &deliver)
+}
+
+/// The arrivals that are due, arc by arc: how many frames were delivered.
+pub(crate) fn arrivals<W: Watcher>(
+    plan: &Plan,
+    now: Tick,
+    lanes: &mut [Lane],
+    relay: &mut Relay,
+    store: &mut FrameStore,
+    watcher: &mut W,
+) -> Result<u64, Halt>
+    requires fit { AllFit plan.now.net.now plan.now.streams.now plan.now.script.now }
+    requires lanes { length lanes.old ≡ length plan.now.net.now.arcs }
+    requires now { now.0 ≤ 4 * 10 ^ 12 }
+    requires keeps { (entries : List Entry) × Keeps (scenario_of plan.now) store.old lanes.old entries [] }
+    requires reached { LanesReached (scenario_of plan.now) now.0 (1 + length plan.now.net.now.arcs) lanes.old }
+    requires ready { AreReady now.0 lanes.old }
+    requires stands { (calls : List Call) × Stands relay.old plan.now.net.now plan.now.streams.now calls }
+    requires latest { relay.old.latest.0 ≤ now.0 }
+    ensures ready { AreReady now.0 lanes.new }
+    ensures part { TellsPart plan.now.net.now result (W.took watcher.old) (W.took watcher.new) (W.torn watcher.new) (λ x es. ArrivalsPart (scenario_of plan.now) now.0 (1 + length plan.now.net.now.arcs) (length plan.now.net.now.arcs) x store.old store.new relay.old relay.new lanes.old lanes.new es) (LanesFront (scenario_of plan.now) now.0 (1 + length plan.now.net.now.arcs) lanes.old) (ArrivalsAlias (scenario_of plan.now) now.0 lanes.old) }
+    ensures latest { relay.new.latest.0 ≤ now.0 }
+    ensures cause { HasCause (W.faults watcher.old) (W.faults watcher.new) result }
+    ensures same { W.same watcher.old watcher.new }
+{
+    let mut delivered: u64 = 0;
+    for arc in 0..lanes.len() {
+        let lane = &mut lanes[arc];
+        let arrived = arrive_on(plan, now, ArcId(arc as u16), lane, relay, store, watcher)?;
+        delivered += u64::from(arrived);
+    }
+    Ok(delivered)
+}
