@@ -11,3 +11,8 @@ pub mod Readiness
 pub mod EndParts
 pub mod ExpiryParts
 pub mod TickParts
+pub mod Delivered
+pub mod LandParts
+pub mod StepParts
+pub mod Beginning
+pub mod AdvanceParts

@@ -36,3 +36,9 @@ pub still_settled : (t : ℕ) (old new : List Lane) → SameLinks old new → Ar
 still_settled t old new same all a lane at =
     let there = from_map (λ (l : Lane). l.link) old a lane.link (ap (λ xs. slice_get xs a) (sym same) ∙ into_map (λ (l : Lane). l.link) new a lane at) in
     subst (λ x. IsUpTo x t) there.2 (all a there.0 there.1)
+
+-- and as ready
+pub still_ready : (t : ℕ) (old new : List Lane) → SameLinks old new → AreReady t old → AreReady t new
+still_ready t old new same all a lane at =
+    let there = from_map (λ (l : Lane). l.link) old a lane.link (ap (λ xs. slice_get xs a) (sym same) ∙ into_map (λ (l : Lane). l.link) new a lane at) in
+    subst (λ x. IsReady x t) there.2 (all a there.0 there.1)

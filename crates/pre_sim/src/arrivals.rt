@@ -41,6 +41,7 @@ pub(crate) fn arrive_on<W: Watcher>(
 ) -> Result<bool, Halt>
     requires arc { arc.0 < length plan.now.net.now.arcs }
     requires now { now.0 ≤ 4 * 10 ^ 12 }
+    requires until { now.0 ≤ plan.now.script.now.until.0 }
     requires fit { AllFit plan.now.net.now plan.now.streams.now plan.now.script.now }
     requires keeps { LaneKeeps (scenario_of plan.now) store.old arc.0 lane.old }
     requires reached { LaneReached (scenario_of plan.now) now.0 (Phase.arrivals arc.0) arc.0 None lane.old }
@@ -210,6 +211,7 @@ pub(crate) fn arrivals<W: Watcher>(
     requires fit { AllFit plan.now.net.now plan.now.streams.now plan.now.script.now }
     requires lanes { length lanes.old ≡ length plan.now.net.now.arcs }
     requires now { now.0 ≤ 4 * 10 ^ 12 }
+    requires until { now.0 ≤ plan.now.script.now.until.0 }
     requires keeps { (entries : List Entry) × Keeps (scenario_of plan.now) store.old lanes.old entries [] }
     requires reached { LanesReached (scenario_of plan.now) now.0 (1 + length plan.now.net.now.arcs) lanes.old }
     requires ready { AreReady now.0 lanes.old }

@@ -17,6 +17,7 @@ use crate::telling::tell;
 use pre_base::Tick;
 use pre_bridge::{Relay, takes_law};
 use pre_history::{events_before_their_end, mpackets_in_order};
+use pre_laws::{deliveries_are_of_frames_sent, files_give_routes};
 use pre_rings::FrameStore;
 use pre_trace::{Event, Watcher};
 
@@ -47,6 +48,7 @@ fn sets<W: Watcher>(
     requires fit { AllFit plan.now.net.now plan.now.streams.now plan.now.script.now }
     requires lanes { vec_len progress.old.lanes ≡ length plan.now.net.now.arcs }
     ensures lanes { vec_len progress.new.lanes ≡ length plan.now.net.now.arcs }
+    ensures counts { (progress.new.sent ≡ progress.old.sent) × (progress.new.dropped ≡ progress.old.dropped) }
     ensures links { SameLinks progress.old.lanes.items progress.new.lanes.items }
     ensures part { TellsPart plan.now.net.now result (W.took watcher.old) (W.took watcher.new) (W.torn watcher.new) (λ x es. SetsPart (scenario_of plan.now) now.0 progress.old progress.new es) (SetsFront (scenario_of plan.now) now.0 progress.old) NoArrival }
     ensures cause { HasCause (W.faults watcher.old) (W.faults watcher.new) result }
@@ -148,6 +150,7 @@ fn land<W: Watcher>(
 ) -> Result<(), Halt>
     requires fit { AllFit plan.now.net.now plan.now.streams.now plan.now.script.now }
     requires now { now.0 ≤ 4 * 10 ^ 12 }
+    requires until { now.0 ≤ plan.now.script.now.until.0 }
     requires lanes { vec_len progress.old.lanes ≡ length plan.now.net.now.arcs }
     requires kept { IsKept (scenario_of plan.now) now.0 progress.old }
     requires ready { AreReady now.0 progress.old.lanes.items }
@@ -160,6 +163,8 @@ fn land<W: Watcher>(
     ensures cause { HasCause (W.faults watcher.old) (W.faults watcher.new) result }
     ensures same { W.same watcher.old watcher.new }
 {
+    files_give_routes();
+    deliveries_are_of_frames_sent();
     sets(plan, now, progress, watcher)?;
     let Progress {
         lanes,
@@ -208,6 +213,7 @@ fn run_tick<W: Watcher>(
 ) -> Result<(), Halt>
     requires fit { AllFit plan.now.net.now plan.now.streams.now plan.now.script.now }
     requires now { now.0 ≤ 4 * 10 ^ 12 }
+    requires until { now.0 ≤ plan.now.script.now.until.0 }
     requires lanes { vec_len progress.old.lanes ≡ length plan.now.net.now.arcs }
     requires counts { IsWithin now.0 progress.old }
     requires kept { IsKept (scenario_of plan.now) now.0 progress.old }
@@ -234,6 +240,7 @@ pub(crate) fn advance<W: Watcher>(
 ) -> Result<bool, Halt>
     requires fit { AllFit plan.now.net.now plan.now.streams.now plan.now.script.now }
     requires now { now.0 ≤ 4 * 10 ^ 12 }
+    requires until { now.0 ≤ plan.now.script.now.until.0 }
     requires lanes { vec_len progress.old.lanes ≡ length plan.now.net.now.arcs }
     requires counts { IsWithin now.0 progress.old }
     requires kept { IsKept (scenario_of plan.now) now.0 progress.old }

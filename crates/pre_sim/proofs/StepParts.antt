@@ -1,0 +1,65 @@
+-- What a step tells, by what its tick told.
+use Rattle.std.proofs.Common.{ℕ, ◌≡◌, ◌+◌, Bool, true, false, List, [], ◌∷◌, ◌++◌, sym, subst, Err}
+use Rattle.pre_history.specs.Scenario.{Scenario}
+use Rattle.pre_history.specs.History.{PlainEvent, History}
+use Rattle.pre_history.specs.Written.{IsWritten, AreWritten}
+use Rattle.pre_history.specs.Legal.{Legal, FirstAliasAt}
+use Rattle.pre_base.specs.declared.numbers.ArcId.{ArcId}
+use Rattle.pre_sim.specs.declared.runs.Step.TheVariants as step
+use Rattle.pre_sim.specs.declared.ticks.Progress.{Progress}
+use Rattle.pre_sim.specs.declared.halts.Halt.{Halt}
+use Rattle.pre_sim.specs.declared.halts.Halt.TheVariants.{Stopped, Memory, Alias}
+use Rattle.pre_sim.specs.Telling.{TellsAll}
+use Rattle.pre_sim.specs.Stands.{Reaches}
+use Rattle.pre_sim.specs.Parts.{TellsPart, TickPart, AdvancePart, AdvanceFront, CarriesAlias, IsFrontOfLegal}
+use Rattle.pre_sim.specs.Views.{SimView, HasTold}
+use Rattle.pre_sim.specs.Steps.{StepTells}
+use Rattle.pre_sim.proofs.TellParts.{Takes, Fails}
+
+-- what reaches the next tick has told its events
+pub has_told : (s : SimView) (h : History) → Reaches s.run s.next 0 h s.progress → HasTold s h
+has_told s h r = record { legal = r.legal; reaches = r }
+
+module _ (s v u : SimView) (same : s ≡ v) (a b : Takes) (torn : Fails) where
+  pub tells_more : u.run ≡ v.run → u.next ≡ v.next + 1 → (last : Bool) → last ≡ false → (es : History) × TellsAll v.run.net a b es × AdvancePart v.run v.next v.progress u.progress last es → StepTells s step.More u a b torn
+  tells_more kept next last is (es, told, any) =
+      let part : TickPart v.run v.next v.progress u.progress es = subst (λ x. AdvancePart v.run v.next v.progress u.progress x es) is any in
+      subst (λ (x : SimView). (es : History) × TellsAll x.run.net a b es × ((h : History) → HasTold x h → HasTold u (h ++ es))) (sym same) (
+        es,
+        told,
+        λ h has. has_told u (h ++ es) (subst (λ n. Reaches u.run n 0 (h ++ es) u.progress) (sym next) (subst (λ (w : Scenario). Reaches w (v.next + 1) 0 (h ++ es) u.progress) (sym kept) (part h has.reaches))),
+      )
+
+  pub tells_ended : (new : Progress) (last : Bool) → last ≡ true → (es : History) × TellsAll v.run.net a b es × AdvancePart v.run v.next v.progress new last es → StepTells s step.Ended u a b torn
+  tells_ended new last is (es, told, any) =
+      let part : AdvancePart v.run v.next v.progress new true es = subst (λ x. AdvancePart v.run v.next v.progress new x es) is any in
+      subst (λ (x : SimView). (es : History) × TellsAll x.run.net a b es × ((h : History) → HasTold x h → Legal x.run (h ++ es))) (sym same) (es, told, λ h has. part h has.reaches)
+
+  pub tells_part : (es : History) × TellsAll v.run.net a b es × AdvanceFront v.run v.next v.progress es → StepTells s step.Memory u a b torn
+  tells_part (es, told, front) =
+      subst (λ (x : SimView). (es : History) × TellsAll x.run.net a b es × ((h : History) → HasTold x h → IsFrontOfLegal x.run (h ++ es))) (sym same) (es, told, λ h has. front h has.reaches)
+
+  pub tells_alias : (arc : ArcId) (ordinal : ℕ) → (es : History) × TellsAll v.run.net a b es × CarriesAlias v.run v.next 0 v.progress arc.0 ordinal es → StepTells s (step.Alias arc ordinal) u a b torn
+  tells_alias arc ordinal (es, told, alias) =
+      subst (λ (x : SimView). (es : History) × TellsAll x.run.net a b es × ((h : History) → HasTold x h → (tick : ℕ) × FirstAliasAt x.run (h ++ es) tick arc.0 ordinal)) (sym same)
+      (es, told, λ h has. (v.next, alias h has.reaches))
+
+  pub tells_torn : ((es : History) × (e : PlainEvent) × AreWritten v.run.net es × IsWritten v.run.net e × ((base : List ℕ) (h : History) → a base h → torn base (h ++ es) e) × AdvanceFront v.run v.next v.progress (es ++ e ∷ [])) → StepTells s step.Stopped u a b torn
+  tells_torn (es, e, all, one, takes, front) =
+      subst (λ (x : SimView). (es : History) × (e : PlainEvent) × AreWritten x.run.net es × IsWritten x.run.net e × ((base : List ℕ) (h : History) → a base h → torn base (h ++ es) e) × ((h : History) → HasTold x h → IsFrontOfLegal x.run (h ++ (es ++ e ∷ [])))) (sym same)
+      (es, e, all, one, takes, λ h has. front h has.reaches)
+
+-- it stopped, found an alias, or no memory
+module _ (s v u : SimView) (same : s ≡ v) (a b : Takes) (torn : Fails) (d : Halt) (Whole : Bool → History → Type 0)
+    (told : TellsPart {T = Bool} v.run.net (Err d) a b torn Whole (AdvanceFront v.run v.next v.progress) (CarriesAlias v.run v.next 0 v.progress)) where
+  abbrev Told : Halt → Type 0
+  Told x = TellsPart {T = Bool} v.run.net (Err x) a b torn Whole (AdvanceFront v.run v.next v.progress) (CarriesAlias v.run v.next 0 v.progress)
+
+  pub stops : d ≡ Stopped → StepTells s step.Stopped u a b torn
+  stops is = tells_torn s v u same a b torn (subst Told is told)
+
+  pub finds_alias : (arc : ArcId) (ordinal : ℕ) → d ≡ Alias arc ordinal → StepTells s (step.Alias arc ordinal) u a b torn
+  finds_alias arc ordinal is = tells_alias s v u same a b torn arc ordinal (subst Told is told)
+
+  pub finds_no_memory : d ≡ Memory → StepTells s step.Memory u a b torn
+  finds_no_memory is = tells_part s v u same a b torn (subst Told is told)

@@ -1,0 +1,29 @@
+use Rattle.std.proofs.Common.{rules, refl, true, arith, ◌≤◌, []}
+use Rattle.pre_history.specs.Scenario.{Scenario}
+use Rattle.pre_sim.specs.declared.ticks.Progress.{Progress}
+use Rattle.pre_sim.specs.Reach.{IsWithin}
+use Rattle.pre_sim.specs.Keeps.{IsKept}
+use Rattle.pre_sim.specs.Views.{SimView}
+use Rattle.pre_sim.proofs.Keeping.{keep_none}
+use Rattle.pre_sim.proofs.Beginning.{has_told_nothing, reaches_nothing, idle_ready}
+use Rattle.pre_sim.proofs.runs.Sim.make.Goals as goal
+
+pub returns : goal.returns
+returns c =
+    let new : SimView = record {
+      run = record { net = c.args.net.now; streams = c.args.streams.now; script = c.args.script.now };
+      progress = record { lanes = c.in_ok-idle_lanes.field-0; relay = c.in_ok-make.field-0; store = c.in_ok-make-2.field-0; set = 0; sent = 0; delivered = 0; dropped = 0 };
+      next = 0;
+      going = true;
+    } in
+    (refl, refl, refl, has_told_nothing new refl refl refl refl refl (search rules) c.in_ok-make.ensures.stands)
+
+pub invariant_of-result : goal.invariant_of-result
+invariant_of-result c =
+    let w : Scenario = record { net = c.args.net.now; streams = c.args.streams.now; script = c.args.script.now } in
+    let p : Progress = record { lanes = c.in_ok-idle_lanes.field-0; relay = c.in_ok-make.field-0; store = c.in_ok-make-2.field-0; set = 0; sent = 0; delivered = 0; dropped = 0 } in
+    let s : SimView = record { run = w; progress = p; next = 0; going = true } in
+    let within : IsWithin 0 p = record { sent = omega arith; dropped = omega arith } in
+    let early : c.in_ok-make.field-0.latest.0 ≤ 0 = search rules in
+    let kept : IsKept w 0 p = record { calls = []; stands = c.in_ok-make.ensures.stands; latest = early; keeps = keep_none w c.in_ok-make-2.field-0 c.in_ok-idle_lanes.field-0.items (search rules) } in
+    (c.requires, search rules, omega arith, λ going. (within, kept, idle_ready w c.in_ok-idle_lanes.field-0.items (search rules), ([], reaches_nothing s refl refl refl refl refl (search rules) c.in_ok-make.ensures.stands)))
