@@ -11,3 +11,13 @@ pub mod Readiness
 pub mod EndParts
 pub mod ExpiryParts
 pub mod TickParts
+pub mod GivenEnded
+pub mod Listening
+pub mod ArrivalRoutes
+pub mod ArrivedInside
+pub mod SlotsBack
+pub mod Landings
+pub mod ArrivalParts
+pub mod AllArrivals
+pub mod TellFronts
+pub mod FrameSizes

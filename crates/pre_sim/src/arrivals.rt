@@ -1,5 +1,6 @@
-ghost use Rattle.std.specs.Prelude.{◌≡◌, ◌<◌, ◌≤◌, ◌+◌, ◌*◌, ◌^◌, IfOk, IfErr, IfSome, IsNone, ◌↔◌, List, [], None, length};
-ghost use Rattle.pre_incoming.specs.declared.landings.Landed.TheVariants.{Alias, Lldp};
+ghost use Rattle.std.specs.Prelude.{◌≡◌, ◌<◌, ◌≤◌, ◌+◌, ◌*◌, ◌^◌, IfOk, IfErr, IfSome, IsNone, ◌↔◌, List, [], None, length, take};
+ghost use Rattle.pre_incoming.specs.declared.landings.Landed.TheVariants.{Alias, Frame, Lldp};
+ghost use Rattle.pre_base.specs.declared.numbers.FrameNo.{FrameNo};
 ghost use Rattle.pre_base.specs.declared.limits.TheConstants.{GREATEST_FRAME};
 ghost use Rattle.pre_history.specs.Scenario.{FrameOf};
 ghost use Rattle.pre_history.specs.Rules.{arrival};
@@ -21,10 +22,8 @@ use crate::plans::{Plan, arc_at};
 use crate::telling::tell;
 use pre_base::{ArcId, FrameNo, GREATEST_FRAME, Tick};
 use pre_bridge::{Relay, route_law};
-use pre_history::{events_before_their_end, mpackets_in_order};
-
 use pre_incoming::Landed;
-use pre_links::Partner;
+use pre_links::{Partner, adverts_are_sent};
 use pre_rings::{FrameRef, FrameStore};
 use pre_topo::Network;
 use pre_trace::{Event, Outcome, Watcher};
@@ -41,6 +40,7 @@ pub(crate) fn arrive_on<W: Watcher>(
 ) -> Result<bool, Halt>
     requires arc { arc.0 < length plan.now.net.now.arcs }
     requires now { now.0 ≤ 4 * 10 ^ 12 }
+    requires until { now.0 ≤ plan.now.script.now.until.0 }
     requires fit { AllFit plan.now.net.now plan.now.streams.now plan.now.script.now }
     requires keeps { LaneKeeps (scenario_of plan.now) store.old arc.0 lane.old }
     requires reached { LaneReached (scenario_of plan.now) now.0 (Phase.arrivals arc.0) arc.0 None lane.old }
@@ -52,23 +52,28 @@ pub(crate) fn arrive_on<W: Watcher>(
     ensures cause { HasCause (W.faults watcher.old) (W.faults watcher.new) result }
     ensures same { W.same watcher.old watcher.new }
 {
-    mpackets_in_order();
-    events_before_their_end();
+    adverts_are_sent();
     route_law();
     let mut octets = [0u8; GREATEST_FRAME as usize];
     let Some(landing) = lane.incoming.land(&plan.inputs(), now, arc, &mut octets) else {
         return Ok(false);
     };
-    let octets = &octets[..landing.size];
     let ordinal = landing.ord;
     let Some(outcome) = outcome_of(landing.given) else {
         return Err(Halt::Alias { arc, ordinal });
     };
-    listen(&mut lane.partner, now, landing.given, octets);
+    listen(
+        &mut lane.partner,
+        now,
+        landing.given,
+        landing.size,
+        &octets,
+    );
     tell_arrival(plan.net, now, arc, ordinal, outcome, watcher)?;
     let Landed::Frame(frame) = landing.given else {
         return Ok(false);
     };
+    let octets = &octets[..landing.size];
     if keep_inside(plan, now, arc, frame, octets, relay, store)? {
         return Ok(false);
     }
@@ -93,14 +98,15 @@ fn outcome_of(given: Landed) -> Option<Outcome>
     }
 }
 
-/// Keeps what an arrival says of the partner.
-fn listen(partner: &mut Partner, now: Tick, given: Landed, octets: &[u8])
+/// Keeps what an arrival says of the partner; an LLDP frame stands at the front of the octets.
+fn listen(partner: &mut Partner, now: Tick, given: Landed, size: usize, octets: &[u8])
     requires now { now.0 ≤ 10 ^ 18 }
-    requires size { (given ≡ Lldp) → 18 ≤ length octets.now }
-    ensures { Listens now.0 given octets.now partner.old partner.new }
+    requires size { (given ≡ Lldp) → (18 ≤ size) × (size ≤ length octets.now) }
+    ensures hears { Listens now.0 given (take size octets.now) partner.old partner.new }
+    ensures unheard { (f : FrameNo) → given ≡ Frame f → partner.new ≡ partner.old }
 {
     match given {
-        Landed::Lldp => partner.lldp(now, octets),
+        Landed::Lldp => partner.lldp(now, &octets[..size]),
         Landed::Verify => partner.verify(now),
         Landed::Respond => partner.respond(now),
         Landed::Lost
@@ -210,6 +216,7 @@ pub(crate) fn arrivals<W: Watcher>(
     requires fit { AllFit plan.now.net.now plan.now.streams.now plan.now.script.now }
     requires lanes { length lanes.old ≡ length plan.now.net.now.arcs }
     requires now { now.0 ≤ 4 * 10 ^ 12 }
+    requires until { now.0 ≤ plan.now.script.now.until.0 }
     requires keeps { (entries : List Entry) × Keeps (scenario_of plan.now) store.old lanes.old entries [] }
     requires reached { LanesReached (scenario_of plan.now) now.0 (1 + length plan.now.net.now.arcs) lanes.old }
     requires ready { AreReady now.0 lanes.old }

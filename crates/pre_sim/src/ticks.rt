@@ -148,6 +148,7 @@ fn land<W: Watcher>(
 ) -> Result<(), Halt>
     requires fit { AllFit plan.now.net.now plan.now.streams.now plan.now.script.now }
     requires now { now.0 ≤ 4 * 10 ^ 12 }
+    requires until { now.0 ≤ plan.now.script.now.until.0 }
     requires lanes { vec_len progress.old.lanes ≡ length plan.now.net.now.arcs }
     requires kept { IsKept (scenario_of plan.now) now.0 progress.old }
     requires ready { AreReady now.0 progress.old.lanes.items }
@@ -208,6 +209,7 @@ fn run_tick<W: Watcher>(
 ) -> Result<(), Halt>
     requires fit { AllFit plan.now.net.now plan.now.streams.now plan.now.script.now }
     requires now { now.0 ≤ 4 * 10 ^ 12 }
+    requires until { now.0 ≤ plan.now.script.now.until.0 }
     requires lanes { vec_len progress.old.lanes ≡ length plan.now.net.now.arcs }
     requires counts { IsWithin now.0 progress.old }
     requires kept { IsKept (scenario_of plan.now) now.0 progress.old }
@@ -234,6 +236,7 @@ pub(crate) fn advance<W: Watcher>(
 ) -> Result<bool, Halt>
     requires fit { AllFit plan.now.net.now plan.now.streams.now plan.now.script.now }
     requires now { now.0 ≤ 4 * 10 ^ 12 }
+    requires until { now.0 ≤ plan.now.script.now.until.0 }
     requires lanes { vec_len progress.old.lanes ≡ length plan.now.net.now.arcs }
     requires counts { IsWithin now.0 progress.old }
     requires kept { IsKept (scenario_of plan.now) now.0 progress.old }
