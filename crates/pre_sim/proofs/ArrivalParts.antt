@@ -115,8 +115,7 @@ module _ (w : Scenario) (t a : ℕ) (a_lt : a < length w.net.arcs) (old new : La
     takes_none w relay,
   )
 
-  module _ (adverts : AdvertLaw) (x : Landing) (into : List ℕ) (listens : Listens t x.given (take x.size into) old.partner new.partner)
-      (unheard : (f : FrameNo) → x.given ≡ landed.Frame f → new.partner ≡ old.partner)
+  module _ (x : Landing) (into : List ℕ)
       (lands : (h : History) → LegalBefore w h (moment_of w t (Phase.arrivals a)) → Receives w h a old.incoming → LandsAs w h t a x into new.incoming x.given) where
 
     -- ---- an alias is due
@@ -124,7 +123,13 @@ module _ (w : Scenario) (t a : ℕ) (a_lt : a < length w.net.arcs) (old new : La
     pub alias_part : t ≤ w.script.until.0 → x.given ≡ landed.Alias → LaneAlias w t (Phase.arrivals a) a None old a x.ord []
     alias_part by is = (refl, refl, λ h items b. (by, a_lt, b.legal, subst (LandsAs w h t a x into new.incoming) is (lands h b.legal b.stands.incoming)))
 
-    module _ (other : x.given ≢ landed.Alias) where
+    -- the frame that lands goes over the arc, where some history leads there
+    pub frame_over : IsRouted w → LaneReached w t (Phase.arrivals a) a None old → (f : FrameNo) → x.given ≡ landed.Frame f → Contains (hops w f.0) a
+    frame_over routed (h, items, b) f is =
+        goes_over w routed (moment_of w t (Phase.arrivals a)) h a x.ord f.0 b.legal.0 (subst (LandsAs w h t a x into new.incoming) is (lands h b.legal b.stands.incoming)).2.named
+
+    module _ (adverts : AdvertLaw) (listens : Listens t x.given (take x.size into) old.partner new.partner) (unheard : (f : FrameNo) → x.given ≡ landed.Frame f → new.partner ≡ old.partner)
+        (other : x.given ≢ landed.Alias) where
       -- what lands
       its : (h : History) (items : List Entry) → Before w t (Phase.arrivals a) a None old h items
           → IsNext w h t a x × GoesOn w h t a (events w h t a x) new.incoming × IsGiven w h t a x.ord (take x.size into) x.given
@@ -268,8 +273,3 @@ module _ (w : Scenario) (t a : ℕ) (a_lt : a < length w.net.arcs) (old new : La
               (given_part store (keeps.2 w.net w.streams calls stands)),
           λ calls' stands'. (calls', subst (λ r. Stands r w.net w.streams calls') (sym keeps.1) stands', sym (append-nil (inside w.net w.streams calls'))),
         )
-
-    -- the frame that lands goes over the arc, where some history leads there
-    pub frame_over : IsRouted w → LaneReached w t (Phase.arrivals a) a None old → (f : FrameNo) → x.given ≡ landed.Frame f → Contains (hops w f.0) a
-    frame_over routed (h, items, b) f is =
-        goes_over w routed (moment_of w t (Phase.arrivals a)) h a x.ord f.0 b.legal.0 (subst (LandsAs w h t a x into new.incoming) is (lands h b.legal b.stands.incoming)).2.named

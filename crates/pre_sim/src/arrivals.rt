@@ -4,7 +4,11 @@ ghost use Rattle.pre_base.specs.declared.numbers.FrameNo.{FrameNo};
 ghost use Rattle.pre_base.specs.declared.limits.TheConstants.{GREATEST_FRAME};
 ghost use Rattle.pre_history.specs.Scenario.{FrameOf};
 ghost use Rattle.pre_history.specs.Rules.{arrival};
-ghost use Rattle.pre_incoming.specs.Landings.{HoldsFrame, result_of};
+ghost use Rattle.pre_incoming.specs.Landings.{HoldsFrame, Lands, result_of};
+ghost use Rattle.pre_incoming.specs.Wires.{Receives};
+ghost use Rattle.pre_history.specs.History.{History};
+ghost use Rattle.pre_history.specs.Placed.{moment_of};
+ghost use Rattle.pre_history.specs.Legal.{LegalBefore};
 ghost use Rattle.pre_bridge.specs.Inside.{Call, Entry};
 ghost use Rattle.pre_bridge.specs.Relays.{Stands};
 ghost use Rattle.pre_sim.specs.declared.halts.Halt.TheVariants.{Memory};
@@ -22,7 +26,7 @@ use crate::plans::{Plan, arc_at};
 use crate::telling::tell;
 use pre_base::{ArcId, FrameNo, GREATEST_FRAME, Tick};
 use pre_bridge::{Relay, route_law};
-use pre_incoming::Landed;
+use pre_incoming::{Incoming, Landed, Landing};
 use pre_links::{Partner, adverts_are_sent};
 use pre_rings::{FrameRef, FrameStore};
 use pre_topo::Network;
@@ -55,7 +59,7 @@ pub(crate) fn arrive_on<W: Watcher>(
     adverts_are_sent();
     route_law();
     let mut octets = [0u8; GREATEST_FRAME as usize];
-    let Some(landing) = lane.incoming.land(&plan.inputs(), now, arc, &mut octets) else {
+    let Some(landing) = land(plan, now, arc, &mut lane.incoming, &mut octets) else {
         return Ok(false);
     };
     let ordinal = landing.ord;
@@ -79,6 +83,23 @@ pub(crate) fn arrive_on<W: Watcher>(
     }
     deliver(plan.net, now, arc, frame, octets, watcher)?;
     Ok(true)
+}
+
+/// What lands at the end of an arc; a frame stands at the front of `into`.
+fn land(
+    plan: &Plan,
+    now: Tick,
+    arc: ArcId,
+    incoming: &mut Incoming,
+    into: &mut [u8; GREATEST_FRAME as usize],
+) -> Option<Landing>
+    requires arc { arc.0 < length plan.now.net.now.arcs }
+    requires fit { AllFit plan.now.net.now plan.now.streams.now plan.now.script.now }
+    ensures lands { (h : History) → LegalBefore (scenario_of plan.now) h (moment_of (scenario_of plan.now) now.0 (Phase.arrivals arc.0))
+        → Receives (scenario_of plan.now) h arc.0 incoming.old → Lands (scenario_of plan.now) h now.0 arc.0 result into.new incoming.new }
+    ensures frame { IfSome result (λ x. HoldsFrame (scenario_of plan.now) x.size into.new x.given) }
+{
+    incoming.land(&plan.inputs(), now, arc, into)
 }
 
 /// The result that a trace tells; an alias has none.
