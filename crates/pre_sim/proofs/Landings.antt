@@ -14,7 +14,7 @@ use Rattle.pre_history.specs.Moments.{Phase, moments}
 use Rattle.pre_history.specs.Placed.{AllAt, AllWithin, IsAt, IsWithin, number, moment_of}
 use Rattle.pre_history.specs.Selected.{arrive_on, is_frame_result}
 use Rattle.pre_history.specs.Queries.{Begins, Ends, Arrivals, Entries}
-use Rattle.pre_history.specs.Octets.{Air, WholeOf, AdvertAt}
+use Rattle.pre_history.specs.Octets.{AdvertAt, Air, ToldActive, WholeOf}
 use Rattle.pre_history.specs.Rules.{HappensIn, arrival}
 use Rattle.pre_history.specs.Legal.{LegalBefore, LegalUpTo}
 use Rattle.pre_history.proofs.Placing.{phase_events, begins_arc}
@@ -29,6 +29,7 @@ use Rattle.pre_incoming.specs.declared.landings.Landing.{Landing}
 use Rattle.pre_incoming.specs.Landings.{GoesOn, GivesLldp, IsGiven, IsNext, LandsAs, delivery, events, result_of}
 use Rattle.pre_incoming.specs.Wires.{Receives}
 use Rattle.pre_incoming.proofs.Telling.{its_arrival}
+use Rattle.pre_links.specs.declared.partners.Partner.{Partner}
 use Rattle.pre_links.specs.Listening.{Hears, IsSilent}
 use Rattle.pre_links.specs.Standing.{AreOver, LinkStands}
 use Rattle.pre_links.proofs.Listened.{unheard_events}
@@ -61,12 +62,22 @@ landed_as w h t a x into new landed.Respond other lands = lands
 landed_as w h t a x into new landed.Nothing other lands = lands
 landed_as w h t a x into new landed.Alias other lands = absurd (other refl)
 
+-- the lane with another receiving end and another partner
+abbrev pub lane_with : Lane → Incoming → Partner → Lane
+lane_with old incoming partner = record { rings = old.rings; outgoing = old.outgoing; incoming = incoming; partner = partner; setting = old.setting; link = old.link }
+
 -- ---- the lane behind the events of an arc's arrivals
 
-module _ (w : Scenario) (t a : ℕ) (a_lt : a < length w.net.arcs) (old new : Lane)
-    (rings : new.rings ≡ old.rings) (outgoing : new.outgoing ≡ old.outgoing) (setting : new.setting ≡ old.setting) (link : new.link ≡ old.link) where
+module _ (w : Scenario) (t a : ℕ) (a_lt : a < length w.net.arcs) (old : Lane) (incoming : Incoming) (partner : Partner) where
   abbrev A : ℕ
   A = length w.net.arcs
+
+  -- where those arrivals stand among all moments
+  abbrev here : ℕ
+  here = moment_of w t (Phase.arrivals a)
+
+  abbrev new : Lane
+  new = lane_with old incoming partner
 
   its_stage : stage_at A t (1 + A + a) a ≡ set_up t
   its_stage = is_set_up A t (1 + A + a) a (omega arith) (omega arith)
@@ -78,16 +89,14 @@ module _ (w : Scenario) (t a : ℕ) (a_lt : a < length w.net.arcs) (old new : La
     pub stand : LaneStands w h a (set_up t) old items
     stand = subst (λ s. LaneStands w h a s old items) its_stage b.stands
 
-    module _ (es : History) (goes : GoesOn w h t a es new.incoming) where
-      at : AllAt A (moment_of w t (Phase.arrivals a)) es
+    module _ (es : History) (goes : GoesOn w h t a es incoming) where
+      at : AllAt A here es
       at = phase_events w h t (1 + A + a) (Phase.arrivals a) es (a_lt, refl) goes.happens
 
-      pub within_moment : AllWithin A (moment_of w t (Phase.arrivals a)) (suc (moment_of w t (Phase.arrivals a))) es
-      within_moment =
-          every_weaker (IsAt A (moment_of w t (Phase.arrivals a))) (IsWithin A (moment_of w t (Phase.arrivals a)) (suc (moment_of w t (Phase.arrivals a))))
-          (λ e here. (moment_of w t (Phase.arrivals a), omega arith, omega arith, here)) es at
+      within_moment : AllWithin A here (suc here) es
+      within_moment = every_weaker (IsAt A here) (IsWithin A here (suc here)) (λ e is. (here, omega arith, omega arith, is)) es at
 
-      pub begins : Begins (h ++ es) a ≡ Begins h a
+      begins : Begins (h ++ es) a ≡ Begins h a
       begins = same_begins A t (1 + A + a) a (omega (arith, a_lt)) a_lt h es (omega (arith, a_lt)) at
 
       ends : Ends (h ++ es) a ≡ Ends h a
@@ -96,23 +105,27 @@ module _ (w : Scenario) (t a : ℕ) (a_lt : a < length w.net.arcs) (old new : La
       entries : (q : ℕ) → Entries (h ++ es) a q ≡ Entries h a q
       entries q = same_entries A t (1 + A + a) a (omega (arith, a_lt)) a_lt q h es (omega (arith, a_lt)) at
 
-      over : AreOver w t (moment_of w t (Phase.arrivals a))
+      over : AreOver w t here
       over = subst (λ s. AreOver w (link_turn s) (number A t (1 + A + a))) its_stage (are_over w t (1 + A + a) a a_lt (omega arith))
 
-      now : (more : List Entry) → Hears w (h ++ es) a new.partner → AreInside w a (Begins (h ++ es) a) (Arrivals (h ++ es) a) t (items ++ more) → LaneStands w (h ++ es) a (set_up t) new (items ++ more)
+      told_active : (u : ℕ) → u < t → ToldActive w (h ++ es) a u ≡ ToldActive w h a u
+      told_active u lt = same_active A t (1 + A + a) a (omega (arith, a_lt)) a_lt w u h es (omega (arith, a_lt)) at
+
+      now : (more : List Entry) → Hears w (h ++ es) a partner → AreInside w a (Begins (h ++ es) a) (Arrivals (h ++ es) a) t (items ++ more)
+          → LaneStands w (h ++ es) a (set_up t) new (items ++ more)
       now more heard inside = record {
-        rings = subst (AreRings w (h ++ es) a) (sym rings) (same_rings w h es a old begins entries stand.rings);
-        outgoing = subst (Sends w (h ++ es) a t true) (sym outgoing)
-            (other_events w h (h ++ es) a t true old.outgoing begins ends entries (λ u lt. same_active A t (1 + A + a) a (omega (arith, a_lt)) a_lt w u h es (omega (arith, a_lt)) at) stand.outgoing);
+        rings = same_rings w h es a old begins entries stand.rings;
+        outgoing = other_events w h (h ++ es) a t true old.outgoing begins ends entries told_active stand.outgoing;
         incoming = goes.receives;
         partner = heard;
-        setting = setting ∙ stand.setting;
-        link = λ negotiates. subst (LinkStands w (h ++ es) a t) (sym link)
-            (still_stands w t (Phase.arrivals a) h es a a_lt (a_lt, refl) b.legal.0 goes.happens t old.link over (omega (arith, a_lt)) (omega (arith, a_lt)) (stand.link negotiates));
+        setting = stand.setting;
+        link = λ negotiates. still_stands w t (Phase.arrivals a) h es a a_lt (a_lt, refl) b.legal.0 goes.happens t old.link over
+            (omega (arith, a_lt)) (omega (arith, a_lt)) (stand.link negotiates);
         inside = inside;
       }
 
-      pub done : (more : List Entry) → Hears w (h ++ es) a new.partner → AreInside w a (Begins (h ++ es) a) (Arrivals (h ++ es) a) t (items ++ more) → After w t (Phase.arrivals a) a None old new h (items ++ more) es
+      pub done : (more : List Entry) → Hears w (h ++ es) a partner → AreInside w a (Begins (h ++ es) a) (Arrivals (h ++ es) a) t (items ++ more)
+          → After w t (Phase.arrivals a) a None old new h (items ++ more) es
       done more heard inside = record {
         happens = goes.happens;
         legal = subst (LegalBefore w (h ++ es)) (next A t a) goes.legal;
@@ -123,20 +136,24 @@ module _ (w : Scenario) (t a : ℕ) (a_lt : a < length w.net.arcs) (old new : La
           next A t a = omega arith
 
     -- where nothing lands, and nothing is heard
-    pub done_none : GoesOn w h t a [] new.incoming → new.partner ≡ old.partner → After w t (Phase.arrivals a) a None old new h (items ++ []) []
-    done_none goes partner =
+    pub done_none : GoesOn w h t a [] incoming → old.partner ≡ partner → After w t (Phase.arrivals a) a None old new h (items ++ []) []
+    done_none goes same =
         done [] goes []
-        (subst (Hears w (h ++ []) a) (sym partner) (subst (λ g. Hears w g a old.partner) (sym (append-nil h)) stand.partner))
+        (subst (Hears w (h ++ []) a) same (subst (λ g. Hears w g a old.partner) (sym (append-nil h)) stand.partner))
         (subst (AreInside w a (Begins (h ++ []) a) (Arrivals (h ++ []) a) t) (sym (append-nil items)) (subst (λ g. AreInside w a (Begins g a) (Arrivals g a) t items) (sym (append-nil h)) stand.inside))
 
   -- ---- an mPacket lands
 
-  module _ (adverts : AdvertLaw) (x : Landing) (octets : List ℕ) (listens : Listens t x.given octets old.partner new.partner) (unheard : (f : FrameNo) → x.given ≡ landed.Frame f → new.partner ≡ old.partner) where
+  module _ (adverts : AdvertLaw) (x : Landing) (octets : List ℕ) (listens : Listens t x.given octets old.partner partner)
+      (unheard : (f : FrameNo) → x.given ≡ landed.Frame f → partner ≡ old.partner) where
     -- what the arrival is
     abbrev new_arrival : Arrive
     new_arrival = record { tick = t; arc = a; ord = x.ord; result = result_of x.given }
 
-    module _ (h : History) (items : List Entry) (b : Before w t (Phase.arrivals a) a None old h items) (next : IsNext w h t a x) (goes : GoesOn w h t a (events w h t a x) new.incoming) where
+    module _ (h : History) (items : List Entry) (b : Before w t (Phase.arrivals a) a None old h items) (next : IsNext w h t a x) (goes : GoesOn w h t a (events w h t a x) incoming) where
+      abbrev es : History
+      es = events w h t a x
+
       advert : GivesLldp w h t a x.ord octets → IsAdvert w h a landed.Lldp octets
       advert given =
           let on = every_at (λ (d : Begin). d.arc ≡ a) (Begins h a) x.ord given.begin (begins_arc h a) given.begun in
@@ -144,21 +161,22 @@ module _ (w : Scenario) (t a : ℕ) (a_lt : a < length w.net.arcs) (old new : La
           (subst (λ i. Gives (Air w h a) i (Given.frame octets)) next.place given.gives, subst IsSome (sym (ap advert_of given.as_sent ∙ says)) refl)
 
       -- heard by the arrival alone
-      by_arrival : (g : Landed) → x.given ≡ g → IsAdvert w h a g octets → Hears w (h ++ arrival t a x.ord (result_of g) ∷ []) a new.partner
+      by_arrival : (g : Landed) → x.given ≡ g → IsAdvert w h a g octets → Hears w (h ++ arrival t a x.ord (result_of g) ∷ []) a partner
       by_arrival g is says =
-          subst (λ i. Hears w (h ++ arrival t a i (result_of g) ∷ []) a new.partner) (sym next.place)
-          (subst (λ y. Listens t y octets old.partner new.partner) is listens w h a a_lt b.legal.0 (stand h items b).partner says)
+          subst (λ i. Hears w (h ++ arrival t a i (result_of g) ∷ []) a partner) (sym next.place)
+          (subst (λ y. Listens t y octets old.partner partner) is listens w h a a_lt b.legal.0 (stand h items b).partner says)
 
       -- a user frame says nothing
-      by_frame : (f : FrameNo) → x.given ≡ landed.Frame f → Hears w (h ++ events w h t a x) a new.partner
+      by_frame : (f : FrameNo) → x.given ≡ landed.Frame f → Hears w (h ++ es) a partner
       by_frame f is =
-          subst (Hears w (h ++ events w h t a x) a) (sym (unheard f is))
-          (unheard_events w (moment_of w t (Phase.arrivals a)) (suc (moment_of w t (Phase.arrivals a))) h (events w h t a x) a old.partner a_lt b.legal.0 (within_moment h items b (events w h t a x) goes)
-          (subst (Every (λ (y : Arrive). IsSilent y.result)) (sym (its_arrival w h t a x.ord x.given)) (subst (λ g. IsSilent (result_of g)) (sym is) frame_silent, tt)) (stand h items b).partner)
+          let silent : IsSilent (result_of x.given) = subst (λ g. IsSilent (result_of g)) (sym is) frame_silent in
+          let all = subst (Every (λ (y : Arrive). IsSilent y.result)) (sym (its_arrival w h t a x.ord x.given)) (silent, tt) in
+          subst (Hears w (h ++ es) a) (sym (unheard f is))
+          (unheard_events w here (suc here) h es a old.partner a_lt b.legal.0 (within_moment h items b es goes) all (stand h items b).partner)
 
-      heard : (g : Landed) → x.given ≡ g → g ≢ landed.Alias → IsGiven w h t a x.ord octets g → Hears w (h ++ arrival t a x.ord (result_of g) ∷ delivery w h t a g) a new.partner
+      heard : (g : Landed) → x.given ≡ g → g ≢ landed.Alias → IsGiven w h t a x.ord octets g → Hears w (h ++ arrival t a x.ord (result_of g) ∷ delivery w h t a g) a partner
       heard landed.Lost is other given = by_arrival landed.Lost is tt
-      heard (landed.Frame f) is other given = subst (λ g. Hears w (h ++ arrival t a x.ord (result_of g) ∷ delivery w h t a g) a new.partner) is (by_frame f is)
+      heard (landed.Frame f) is other given = subst (λ g. Hears w (h ++ arrival t a x.ord (result_of g) ∷ delivery w h t a g) a partner) is (by_frame f is)
       heard landed.Lldp is other given = by_arrival landed.Lldp is (advert given)
       heard landed.Part is other given = by_arrival landed.Part is tt
       heard landed.Verify is other given = by_arrival landed.Verify is tt
@@ -166,17 +184,17 @@ module _ (w : Scenario) (t a : ℕ) (a_lt : a < length w.net.arcs) (old new : La
       heard landed.Nothing is other given = by_arrival landed.Nothing is tt
       heard landed.Alias is other given = absurd (other refl)
 
-      arrivals : Arrivals (h ++ events w h t a x) a ≡ Arrivals h a ++ new_arrival ∷ []
-      arrivals = filter_map-append (arrive_on a) h (events w h t a x) ∙ ap (λ xs. Arrivals h a ++ xs) (its_arrival w h t a x.ord x.given)
+      arrivals : Arrivals (h ++ es) a ≡ Arrivals h a ++ new_arrival ∷ []
+      arrivals = filter_map-append (arrive_on a) h es ∙ ap (λ xs. Arrivals h a ++ xs) (its_arrival w h t a x.ord x.given)
 
       -- the frames inside the bridge, where this is what the arrival hands to it
       inside : (more : List Entry) → filter_map (onward w a (Begins h a)) (new_arrival ∷ []) ≡ map passes more
-          → AreInside w a (Begins (h ++ events w h t a x) a) (Arrivals (h ++ events w h t a x) a) t (items ++ more)
+          → AreInside w a (Begins (h ++ es) a) (Arrivals (h ++ es) a) t (items ++ more)
       inside more hands =
-          subst (λ xs. AreInside w a (Begins (h ++ events w h t a x) a) xs t (items ++ more)) (sym arrivals)
-          (subst (λ bs. AreInside w a bs (Arrivals h a ++ new_arrival ∷ []) t (items ++ more)) (sym (begins h items b (events w h t a x) goes))
+          subst (λ xs. AreInside w a (Begins (h ++ es) a) xs t (items ++ more)) (sym arrivals)
+          (subst (λ bs. AreInside w a bs (Arrivals h a ++ new_arrival ∷ []) t (items ++ more)) (sym (begins h items b es goes))
           (arrived_inside w a t (Begins h a) (Arrivals h a) items new_arrival more (stand h items b).inside (omega arith) hands))
 
-      pub done_one : x.given ≢ landed.Alias → IsGiven w h t a x.ord octets x.given → (more : List Entry) → filter_map (onward w a (Begins h a)) (new_arrival ∷ []) ≡ map passes more
-          → After w t (Phase.arrivals a) a None old new h (items ++ more) (events w h t a x)
-      done_one other given more hands = done h items b (events w h t a x) goes more (heard x.given refl other given) (inside more hands)
+      pub done_one : x.given ≢ landed.Alias → IsGiven w h t a x.ord octets x.given → (more : List Entry)
+          → filter_map (onward w a (Begins h a)) (new_arrival ∷ []) ≡ map passes more → After w t (Phase.arrivals a) a None old new h (items ++ more) es
+      done_one other given more hands = done h items b es goes more (heard x.given refl other given) (inside more hands)
