@@ -1,5 +1,5 @@
 -- The arrivals of one arc after those of others.
-use Rattle.std.proofs.Common.{ℕ, ◌≡◌, ◌+◌, ◌≤◌, List, [], ◌∷◌, ◌++◌, length, refl, sym, ◌∙◌, ap, arith, subst, Some, None, append_assoc}
+use Rattle.std.proofs.Common.{ℕ, ◌≡◌, ◌+◌, ◌≤◌, List, [], ◌++◌, length, refl, sym, ◌∙◌, ap, subst, Some, None, append_assoc}
 use Rattle.std.specs.Prelude.{slice_get, set}
 use Rattle.std.proofs.Math.Nat.{add-zero}
 use Rattle.std.proofs.lemmas.List.{append-nil}
@@ -12,8 +12,7 @@ use Rattle.pre_bridge.specs.declared.relays.Relay.{Relay}
 use Rattle.pre_bridge.specs.Inside.{Entry, inside, of_arc}
 use Rattle.pre_sim.specs.declared.lanes.Lane.{Lane}
 use Rattle.pre_sim.specs.Keeps.{Store, Keeps, LaneKeeps, TakesIn}
-use Rattle.pre_sim.specs.Stands.{LaneStands, LanesStand}
-use Rattle.pre_sim.specs.Stages.{stage_at}
+use Rattle.pre_sim.specs.Stands.{LanesStand}
 use Rattle.pre_sim.specs.Parts.{ArrivalPart, ArrivalsPart, ArrivalsAlias, Before, LaneAlias, LaneFront, LaneReached, LanesFront, LanesReached, LegalAt, its_place}
 use Rattle.pre_sim.proofs.Rows.{lane_more, front_more, lanes_begin}
 

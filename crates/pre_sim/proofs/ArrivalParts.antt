@@ -1,5 +1,5 @@
 -- The part of an arc's arrivals: nothing lands, an mPacket without a frame, a frame that goes on, or one that is delivered.
-use Rattle.std.proofs.Common.{ℕ, suc, ◌≡◌, ◌≢◌, ◌+◌, ◌<◌, ◌≤◌, true, false, List, [], ◌∷◌, ◌++◌, length, take, refl, sym, ◌∙◌, ap, arith, subst, Option, Some, None, filter_map, map, append_assoc}
+use Rattle.std.proofs.Common.{ℕ, suc, ◌≡◌, ◌≢◌, ◌+◌, ◌<◌, ◌≤◌, true, false, List, [], ◌∷◌, ◌++◌, length, take, refl, sym, ◌∙◌, ap, subst, Option, Some, None, filter_map, map, append_assoc}
 use Rattle.std.specs.Prelude.{slice_get, option_map, option_and_then, Contains}
 use Rattle.std.specs.List.{cons_option}
 use Rattle.std.proofs.lemmas.List.{append-nil}
@@ -7,7 +7,6 @@ use Rattle.std.proofs.lemmas.List.Sums.{fold-append}
 use Rattle.pre_base.specs.declared.limits.TheConstants.{LEAST_FRAME}
 use Rattle.pre_base.specs.declared.numbers.FrameNo.{FrameNo}
 use Rattle.pre_base.specs.declared.numbers.ArcId.{ArcId}
-use Rattle.pre_topo.specs.declared.network.Network.{Network}
 use Rattle.pre_history.specs.declared.events.What.{What}
 use Rattle.pre_history.specs.declared.events.What.TheVariants as what
 use Rattle.pre_history.specs.declared.events.Outcome.{Outcome}
@@ -19,9 +18,9 @@ use Rattle.pre_history.specs.Selected.{frame_in, is_frame_result}
 use Rattle.pre_history.specs.Queries.{Begins}
 use Rattle.pre_history.specs.Comings.{frame_at, hops, next_arc}
 use Rattle.pre_history.specs.Rules.{arrival, delivered}
-use Rattle.pre_history.specs.Legal.{FirstAliasAt, LegalBefore, LegalUpTo}
+use Rattle.pre_history.specs.Legal.{LegalBefore, LegalUpTo}
 use Rattle.pre_history.proofs.Lists.{every_at}
-use Rattle.pre_laws.specs.Routed.{IsRouted, IsOnRoute}
+use Rattle.pre_laws.specs.Routed.{IsRouted}
 use Rattle.pre_laws.proofs.Routed.{BegunRight, begins_right, all_right}
 use Rattle.pre_bridge.specs.declared.relays.Relay.{Relay}
 use Rattle.pre_bridge.specs.Inside.{Call, Entry, delivered as delivery_call, after, inside, kept}
@@ -39,7 +38,7 @@ use Rattle.pre_sim.specs.Arriving.{IsStored, KeepsInside, Listens, delivered_at,
 use Rattle.pre_sim.specs.Keeps.{Store, TakesIn}
 use Rattle.pre_sim.specs.Reach.{AllFit}
 use Rattle.pre_sim.specs.Stands.{Onward, onward, passes}
-use Rattle.pre_sim.specs.Parts.{After, ArrivalPart, Before, IsFront, LaneAlias, LaneFront, LanePart, LaneReached, LegalAt}
+use Rattle.pre_sim.specs.Parts.{After, ArrivalPart, Before, LaneAlias, LaneFront, LanePart, LaneReached, LegalAt}
 use Rattle.pre_sim.proofs.ArrivalRoutes.{GoAlong, goes_onward, still_over, stays_for}
 use Rattle.pre_sim.proofs.Keeping.{keep_lane, keep_arrived}
 use Rattle.pre_sim.proofs.FrameSizes.{routed}

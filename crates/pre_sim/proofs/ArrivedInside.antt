@@ -1,5 +1,5 @@
 -- The frames inside the bridge at an arc's end, when one more arrives.
-use Rattle.std.proofs.Common.{ℕ, ◌≡◌, ◌+◌, ◌<◌, ◌≤◌, List, [], ◌∷◌, ◌++◌, length, take, drop, sym, ◌∙◌, ap, arith, subst, map, filter_map}
+use Rattle.std.proofs.Common.{ℕ, ◌≡◌, ◌+◌, ◌<◌, ◌≤◌, List, [], ◌∷◌, ◌++◌, drop, sym, ◌∙◌, ap, arith, subst, map, filter_map}
 use Rattle.std.specs.List.{AllByRecursion as Every}
 use Rattle.std.proofs.lemmas.List.{map-append, take-append-le, length-append}
 use Rattle.std.proofs.lemmas.List.Elements.{filter_map-append}
@@ -20,5 +20,6 @@ arrived_inside w a t bs xs items x more is late goes =
       past = subst (Every (λ (y : Arrive). y.tick + latency w a < t)) (sym (take-append-le is.gone xs (x ∷ []) is.few)) is.past;
       later = subst (Every (λ (y : Arrive). t ≤ y.tick + latency w a)) (sym dropped) (every-append (λ (y : Arrive). t ≤ y.tick + latency w a) (drop is.gone xs) (x ∷ []) is.later (late, tt));
       are = ap (filter_map (onward w a bs)) dropped
-          ∙ (filter_map-append (onward w a bs) (drop is.gone xs) (x ∷ []) ∙ (ap (λ ys. ys ++ filter_map (onward w a bs) (x ∷ [])) is.are ∙ (ap (λ ys. map passes items ++ ys) goes ∙ sym (map-append passes items more))));
+          ∙ (filter_map-append (onward w a bs) (drop is.gone xs) (x ∷ [])
+          ∙ (ap (λ ys. ys ++ filter_map (onward w a bs) (x ∷ [])) is.are ∙ (ap (λ ys. map passes items ++ ys) goes ∙ sym (map-append passes items more))));
     }

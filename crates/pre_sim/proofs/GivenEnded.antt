@@ -5,7 +5,7 @@ use Rattle.pre_mpacket.specs.Arrivals.{Given, Gives}
 use Rattle.pre_mpacket.specs.Spelling.{PlainPacket, mpacket_of}
 use Rattle.pre_history.specs.Scenario.{Scenario}
 use Rattle.pre_history.specs.History.{Ended, History}
-use Rattle.pre_history.specs.Queries.{Begins, Ends, Packet, Packets, packet, end_of}
+use Rattle.pre_history.specs.Queries.{Begins, Ends, Packet, Packets, packet}
 use Rattle.pre_history.specs.Octets.{Air, Arrived, Damaged, SentOctets, is_lost}
 use Rattle.pre_history.specs.Legal.{LegalUpTo}
 use Rattle.pre_history.proofs.Chosen.{from_filter, from_map}

@@ -1,44 +1,41 @@
 -- What lands at the end of an arc and is no alias, as its lane stands for it.
-use Rattle.std.proofs.Common.{ℕ, suc, ◌≡◌, ◌≢◌, ◌+◌, ◌*◌, ◌<◌, ◌≤◌, true, false, List, [], ◌∷◌, ◌++◌, length, take, refl, sym, ◌∙◌, ap, arith, subst, Some, None, filter_map, map}
-use Rattle.std.specs.Prelude.{slice_get, IsSome}
+use Rattle.std.proofs.Common.{ℕ, suc, ◌≡◌, ◌≢◌, ◌+◌, ◌<◌, true, List, [], ◌∷◌, ◌++◌, length, take, refl, sym, ◌∙◌, ap, arith, subst, Some, None, filter_map, map}
+use Rattle.std.specs.Prelude.{IsSome}
 use Rattle.std.specs.List.{AllByRecursion as Every}
 use Rattle.std.proofs.lemmas.List.{append-nil}
 use Rattle.std.proofs.lemmas.List.Elements.{filter_map-append}
 use Rattle.pre_base.specs.declared.numbers.FrameNo.{FrameNo}
 use Rattle.pre_lldp.specs.LldpLayout.{advert_of, is_lldp_frame}
 use Rattle.pre_mpacket.specs.Arrivals.{Given, Gives}
-use Rattle.pre_topo.specs.declared.arcs.Mode.TheVariants as mode
-use Rattle.pre_history.specs.Scenario.{Scenario, arc, latency}
+use Rattle.pre_history.specs.Scenario.{Scenario}
 use Rattle.pre_history.specs.History.{Begin, Arrive, History}
-use Rattle.pre_history.specs.Moments.{Phase, moments}
+use Rattle.pre_history.specs.Moments.{Phase}
 use Rattle.pre_history.specs.Placed.{AllAt, AllWithin, IsAt, IsWithin, number, moment_of}
-use Rattle.pre_history.specs.Selected.{arrive_on, is_frame_result}
+use Rattle.pre_history.specs.Selected.{arrive_on}
 use Rattle.pre_history.specs.Queries.{Begins, Ends, Arrivals, Entries}
 use Rattle.pre_history.specs.Octets.{AdvertAt, Air, ToldActive, WholeOf}
-use Rattle.pre_history.specs.Rules.{HappensIn, arrival}
-use Rattle.pre_history.specs.Legal.{LegalBefore, LegalUpTo}
+use Rattle.pre_history.specs.Rules.{arrival}
+use Rattle.pre_history.specs.Legal.{LegalBefore}
 use Rattle.pre_history.proofs.Placing.{phase_events, begins_arc}
 use Rattle.pre_history.proofs.Turns.{same_begins, same_ends}
 use Rattle.pre_bridge.specs.Inside.{Entry}
-use Rattle.pre_outgoing.specs.Sends.{Sends}
 use Rattle.pre_outgoing.proofs.Keeping.{other_events}
 use Rattle.pre_incoming.specs.declared.incomings.Incoming.{Incoming}
 use Rattle.pre_incoming.specs.declared.landings.Landed.{Landed}
 use Rattle.pre_incoming.specs.declared.landings.Landed.TheVariants as landed
 use Rattle.pre_incoming.specs.declared.landings.Landing.{Landing}
 use Rattle.pre_incoming.specs.Landings.{GoesOn, GivesLldp, IsGiven, IsNext, LandsAs, delivery, events, result_of}
-use Rattle.pre_incoming.specs.Wires.{Receives}
 use Rattle.pre_incoming.proofs.Telling.{its_arrival}
 use Rattle.pre_links.specs.declared.partners.Partner.{Partner}
 use Rattle.pre_links.specs.Listening.{Hears, IsSilent}
-use Rattle.pre_links.specs.Standing.{AreOver, LinkStands}
+use Rattle.pre_links.specs.Standing.{AreOver}
 use Rattle.pre_links.proofs.Listened.{unheard_events}
 use Rattle.pre_links.proofs.Phases.{still_stands}
 use Rattle.pre_sim.specs.declared.lanes.Lane.{Lane}
 use Rattle.pre_sim.specs.Arriving.{IsAdvert, Listens}
 use Rattle.pre_sim.specs.Stages.{set_up, link_turn, stage_at}
-use Rattle.pre_sim.specs.Stands.{AreRings, AreInside, LaneStands, onward, passes}
-use Rattle.pre_sim.specs.Parts.{Before, After, LegalAt}
+use Rattle.pre_sim.specs.Stands.{AreInside, LaneStands, onward, passes}
+use Rattle.pre_sim.specs.Parts.{Before, After}
 use Rattle.pre_sim.proofs.ArrivedInside.{arrived_inside}
 use Rattle.pre_sim.proofs.Lists.{every_at, every_weaker}
 use Rattle.pre_sim.proofs.Listening.{frame_silent}
@@ -140,7 +137,8 @@ module _ (w : Scenario) (t a : ℕ) (a_lt : a < length w.net.arcs) (old : Lane) 
     done_none goes same =
         done [] goes []
         (subst (Hears w (h ++ []) a) same (subst (λ g. Hears w g a old.partner) (sym (append-nil h)) stand.partner))
-        (subst (AreInside w a (Begins (h ++ []) a) (Arrivals (h ++ []) a) t) (sym (append-nil items)) (subst (λ g. AreInside w a (Begins g a) (Arrivals g a) t items) (sym (append-nil h)) stand.inside))
+        (subst (AreInside w a (Begins (h ++ []) a) (Arrivals (h ++ []) a) t) (sym (append-nil items))
+        (subst (λ g. AreInside w a (Begins g a) (Arrivals g a) t items) (sym (append-nil h)) stand.inside))
 
   -- ---- an mPacket lands
 

@@ -1,5 +1,5 @@
 -- What an arrival says of the link partner.
-use Rattle.std.proofs.Common.{ℕ, suc, ◌≡◌, ◌+◌, ◌<◌, List, [], ◌∷◌, ◌++◌, length, refl, sym, arith, subst, Option, Some, None}
+use Rattle.std.proofs.Common.{ℕ, suc, ◌≡◌, ◌+◌, ◌<◌, List, [], ◌∷◌, ◌++◌, length, refl, sym, arith, subst}
 use Rattle.std.specs.Prelude.{IsSome}
 use Rattle.std.specs.List.{AllByRecursion as Every}
 use Rattle.pre_mpacket.specs.Arrivals.{Given, Gives}
@@ -51,8 +51,8 @@ listens_silent t given octets partner silent w h a a_lt legal heard advert =
 -- an LLDP frame is heard that has ended
 pub listens_lldp : (t : ℕ) (octets : List ℕ) (old new : Partner)
     → ((w : Scenario) (h : History) (a : ℕ) → a < length w.net.arcs → LegalUpTo w (number (length w.net.arcs) t (1 + length w.net.arcs + a)) h → Hears w h a old
-        → length (Arrivals h a) < length (Ends h a) → Gives (Air w h a) (length (Arrivals h a)) (Given.frame octets) → IsSome (advert_of octets)
-        → Hears w (h ++ arrival t a (length (Arrivals h a)) outcome.Lldp ∷ []) a new)
+    → length (Arrivals h a) < length (Ends h a) → Gives (Air w h a) (length (Arrivals h a)) (Given.frame octets) → IsSome (advert_of octets)
+    → Hears w (h ++ arrival t a (length (Arrivals h a)) outcome.Lldp ∷ []) a new)
     → Listens t landed.Lldp octets old new
 listens_lldp t octets old new hears w h a a_lt legal heard (gives, says) =
     hears w h a a_lt legal heard (given_ended w (number (length w.net.arcs) t (1 + length w.net.arcs + a)) h a a_lt legal (length (Arrivals h a)) (Given.frame octets) gives) gives says

@@ -50,7 +50,9 @@ pub(crate) fn arrive_on<W: Watcher>(
     requires reached { LaneReached (scenario_of plan.now) now.0 (Phase.arrivals arc.0) arc.0 None lane.old }
     requires stands { (calls : List Call) × Stands relay.old plan.now.net.now plan.now.streams.now calls }
     requires latest { relay.old.latest.0 ≤ now.0 }
-    ensures part { TellsPart plan.now.net.now result (W.took watcher.old) (W.took watcher.new) (W.torn watcher.new) (λ x es. ArrivalPart (scenario_of plan.now) now.0 arc.0 (count_of x) store.old store.new relay.old relay.new lane.old lane.new es) (LaneFront (scenario_of plan.now) now.0 (Phase.arrivals arc.0) arc.0 None lane.old) (LaneAlias (scenario_of plan.now) now.0 (Phase.arrivals arc.0) arc.0 None lane.old) }
+    ensures part { TellsPart plan.now.net.now result (W.took watcher.old) (W.took watcher.new) (W.torn watcher.new)
+        (λ x es. ArrivalPart (scenario_of plan.now) now.0 arc.0 (count_of x) store.old store.new relay.old relay.new lane.old lane.new es)
+        (LaneFront (scenario_of plan.now) now.0 (Phase.arrivals arc.0) arc.0 None lane.old) (LaneAlias (scenario_of plan.now) now.0 (Phase.arrivals arc.0) arc.0 None lane.old) }
     ensures link { lane.new.link ≡ lane.old.link }
     ensures latest { relay.new.latest.0 ≤ now.0 }
     ensures cause { HasCause (W.faults watcher.old) (W.faults watcher.new) result }
@@ -66,13 +68,7 @@ pub(crate) fn arrive_on<W: Watcher>(
     let Some(outcome) = outcome_of(landing.given) else {
         return Err(Halt::Alias { arc, ordinal });
     };
-    listen(
-        &mut lane.partner,
-        now,
-        landing.given,
-        landing.size,
-        &octets,
-    );
+    listen(&mut lane.partner, now, landing.given, landing.size, &octets);
     tell_arrival(plan.net, now, arc, ordinal, outcome, watcher)?;
     let Landed::Frame(frame) = landing.given else {
         return Ok(false);
@@ -130,11 +126,7 @@ fn listen(partner: &mut Partner, now: Tick, given: Landed, size: usize, octets: 
         Landed::Lldp => partner.lldp(now, &octets[..size]),
         Landed::Verify => partner.verify(now),
         Landed::Respond => partner.respond(now),
-        Landed::Lost
-        | Landed::Frame(_)
-        | Landed::Part
-        | Landed::Nothing
-        | Landed::Alias => {}
+        Landed::Lost | Landed::Frame(_) | Landed::Part | Landed::Nothing | Landed::Alias => {}
     }
 }
 
@@ -244,7 +236,9 @@ pub(crate) fn arrivals<W: Watcher>(
     requires stands { (calls : List Call) × Stands relay.old plan.now.net.now plan.now.streams.now calls }
     requires latest { relay.old.latest.0 ≤ now.0 }
     ensures ready { AreReady now.0 lanes.new }
-    ensures part { TellsPart plan.now.net.now result (W.took watcher.old) (W.took watcher.new) (W.torn watcher.new) (λ x es. ArrivalsPart (scenario_of plan.now) now.0 (1 + length plan.now.net.now.arcs) (length plan.now.net.now.arcs) x store.old store.new relay.old relay.new lanes.old lanes.new es) (LanesFront (scenario_of plan.now) now.0 (1 + length plan.now.net.now.arcs) lanes.old) (ArrivalsAlias (scenario_of plan.now) now.0 lanes.old) }
+    ensures part { TellsPart plan.now.net.now result (W.took watcher.old) (W.took watcher.new) (W.torn watcher.new)
+        (λ x es. ArrivalsPart (scenario_of plan.now) now.0 (1 + length plan.now.net.now.arcs) (length plan.now.net.now.arcs) x store.old store.new relay.old relay.new lanes.old lanes.new es)
+        (LanesFront (scenario_of plan.now) now.0 (1 + length plan.now.net.now.arcs) lanes.old) (ArrivalsAlias (scenario_of plan.now) now.0 lanes.old) }
     ensures latest { relay.new.latest.0 ≤ now.0 }
     ensures cause { HasCause (W.faults watcher.old) (W.faults watcher.new) result }
     ensures same { W.same watcher.old watcher.new }

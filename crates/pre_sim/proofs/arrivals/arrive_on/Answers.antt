@@ -1,4 +1,4 @@
-use Rattle.std.proofs.Common.{rules, ◌≡◌, ◌∷◌, [], take, refl, sym, subst, None, true, false}
+use Rattle.std.proofs.Common.{rules, ◌∷◌, [], refl, sym, subst, None}
 use Rattle.std.proofs.lemmas.Bool.{false≢true}
 use Rattle.pre_history.specs.Moments.{Phase}
 use Rattle.pre_history.specs.Scenario.{Scenario, FrameOf}
@@ -131,7 +131,7 @@ returns-then-branch-clause-part g c =
       unheard = c.listen.ensures.unheard;
     } in
     let user : GivesFrame w t a old c.land.new.incoming x c.land.new.into f =
-        gives_frame w t a old c.land.new.incoming x c.land.new.into (routed w c.requires.fit) c.requires.reached c.in-Some.ensures.lands f c.in-Frame.is c.in-Some.ensures.frame in
+    gives_frame w t a old c.land.new.incoming x c.land.new.into (routed w c.requires.fit) c.requires.reached c.in-Some.ensures.lands f c.in-Frame.is c.in-Some.ensures.frame in
     let keeps = subst (KeepsInside w t a f store c.keep_inside.new.store relay c.keep_inside.new.relay) c.if-branch.true c.in_ok-keep_inside.ensures.inside in (
       arrival t a x.ord r ∷ [],
       c.in_ok-tell_arrival.ensures.one,
@@ -158,11 +158,11 @@ returns-in_err-deliver-clause-part g c =
       unheard = c.listen.ensures.unheard;
     } in
     let user : GivesFrame w t a old c.land.new.incoming x c.land.new.into f =
-        gives_frame w t a old c.land.new.incoming x c.land.new.into (routed w c.requires.fit) c.requires.reached c.in-Some.ensures.lands f c.in-Frame.is c.in-Some.ensures.frame in
+    gives_frame w t a old c.land.new.incoming x c.land.new.into (routed w c.requires.fit) c.requires.reached c.in-Some.ensures.lands f c.in-Frame.is c.in-Some.ensures.frame in
     let along = c.route_law.ensures.along w.net w.streams c.requires.fit.streams_fit in
     let keeps = subst (KeepsInside w t a f store c.keep_inside.new.store relay c.keep_inside.new.relay) c.if-branch.false c.in_ok-keep_inside.ensures.inside in
     let last = ends_here w t a c.requires.arc c.adverts_are_sent.ensures old c.land.new.incoming c.listen.new.partner x c.land.new.into r landed
-        c.requires.fit along f user store c.keep_inside.new.store relay c.keep_inside.new.relay c.requires.stands keeps in
+    c.requires.fit along f user store c.keep_inside.new.store relay c.keep_inside.new.relay c.requires.stands keeps in
     one_failed w.net c.deliver.result c.from_residual-in_err-deliver.result
     (g.W.Watcher.took c.args.watcher.now) (g.W.Watcher.took c.tell_arrival.new.watcher) (g.W.Watcher.took c.deliver.new.watcher) (g.W.Watcher.torn c.deliver.new.watcher)
     (arrival t a x.ord r ∷ []) (delivered_at w.net t a f (FrameOf w f.0))
@@ -170,7 +170,7 @@ returns-in_err-deliver-clause-part g c =
     (LaneFront w t (Phase.arrivals a) a None old) (LaneAlias w t (Phase.arrivals a) a None old)
     c.in_ok-tell_arrival.ensures.one
     (subst (λ octets. TellsOne w.net c.deliver.result (g.W.Watcher.took c.tell_arrival.new.watcher) (g.W.Watcher.took c.deliver.new.watcher) (g.W.Watcher.torn c.deliver.new.watcher)
-        (delivered_at w.net t a f octets)) user.octets c.deliver.ensures.one)
+    (delivered_at w.net t a f octets)) user.octets c.deliver.ensures.one)
     (both_front w t a c.requires.arc c.adverts_are_sent.ensures old c.land.new.incoming c.listen.new.partner x c.land.new.into r landed c.requires.fit along f user last)
     c.in_err-deliver.field-0.0 c.in_err-deliver.was (search rules)
 
@@ -193,10 +193,10 @@ returns-clause-part g c =
       unheard = c.listen.ensures.unheard;
     } in
     let user : GivesFrame w t a old c.land.new.incoming x c.land.new.into f =
-        gives_frame w t a old c.land.new.incoming x c.land.new.into (routed w c.requires.fit) c.requires.reached c.in-Some.ensures.lands f c.in-Frame.is c.in-Some.ensures.frame in
+    gives_frame w t a old c.land.new.incoming x c.land.new.into (routed w c.requires.fit) c.requires.reached c.in-Some.ensures.lands f c.in-Frame.is c.in-Some.ensures.frame in
     let keeps = subst (KeepsInside w t a f store c.keep_inside.new.store relay c.keep_inside.new.relay) c.if-branch.false c.in_ok-keep_inside.ensures.inside in
     let told = subst (λ octets. TellsAll w.net (g.W.Watcher.took c.tell_arrival.new.watcher) (g.W.Watcher.took c.deliver.new.watcher) (delivered_at w.net t a f octets ∷ []))
-        user.octets c.in_ok-deliver.ensures.one in (
+    user.octets c.in_ok-deliver.ensures.one in (
       arrival t a x.ord r ∷ delivered_at w.net t a f (FrameOf w f.0) ∷ [],
       tells_then w.net (g.W.Watcher.took c.args.watcher.now) (g.W.Watcher.took c.tell_arrival.new.watcher) (g.W.Watcher.took c.deliver.new.watcher)
           (arrival t a x.ord r ∷ []) (delivered_at w.net t a f (FrameOf w f.0) ∷ []) c.in_ok-tell_arrival.ensures.one told,

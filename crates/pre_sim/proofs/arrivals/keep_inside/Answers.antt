@@ -19,7 +19,8 @@ give_back-requires c =
 
 pub returns-in-Err-clause-inside : goal.returns-in-Err-clause-inside
 returns-in-Err-clause-inside c = (
-  is_back c.args.store.now c.stored.new.store c.give_back.new.self c.in_ok-stored.field-0 c.in-Err.kept.slot c.args.octets.now (search rules) (ap (λ (f : FrameRef). f.slot) c.in-Err.ensures.back.0) c.give_back.ensures,
+  is_back c.args.store.now c.stored.new.store c.give_back.new.self c.in_ok-stored.field-0 c.in-Err.kept.slot c.args.octets.now (search rules)
+      (ap (λ (f : FrameRef). f.slot) c.in-Err.ensures.back.0) c.give_back.ensures,
   c.in-Err.ensures.back.1,
   λ net streams calls stands. ap (λ (r : Row). onward net streams c.args.arc.0 r.vid) (sym c.row_of-row.ensures.here) ∙ (c.in-Err.ensures.refused net streams calls stands).0 refl,
 )

@@ -1,4 +1,4 @@
-use Rattle.std.proofs.Common.{rules, refl, sym, subst, take, inl, inr, ◌≡◌}
+use Rattle.std.proofs.Common.{refl, sym, subst, take, inl, inr}
 use Rattle.pre_incoming.specs.declared.landings.Landed.TheVariants as landed
 use Rattle.pre_sim.specs.Arriving.{Listens}
 use Rattle.pre_sim.proofs.Listening.{listens_silent, listens_lldp, lost_silent, frame_silent, part_silent, nothing_silent}
