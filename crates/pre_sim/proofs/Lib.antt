@@ -16,3 +16,13 @@ pub mod LandParts
 pub mod StepParts
 pub mod Beginning
 pub mod AdvanceParts
+pub mod GivenEnded
+pub mod Listening
+pub mod ArrivalRoutes
+pub mod ArrivedInside
+pub mod SlotsBack
+pub mod Landings
+pub mod ArrivalParts
+pub mod AllArrivals
+pub mod TellFronts
+pub mod FrameSizes

@@ -1,9 +1,14 @@
-ghost use Rattle.std.specs.Prelude.{◌≡◌, ◌<◌, ◌≤◌, ◌+◌, ◌*◌, ◌^◌, IfOk, IfErr, IfSome, IsNone, ◌↔◌, List, [], None, length};
-ghost use Rattle.pre_incoming.specs.declared.landings.Landed.TheVariants.{Alias, Lldp};
+ghost use Rattle.std.specs.Prelude.{◌≡◌, ◌<◌, ◌≤◌, ◌+◌, ◌*◌, ◌^◌, IfOk, IfErr, IfSome, IsNone, ◌↔◌, List, [], None, length, take};
+ghost use Rattle.pre_incoming.specs.declared.landings.Landed.TheVariants.{Alias, Frame, Lldp};
+ghost use Rattle.pre_base.specs.declared.numbers.FrameNo.{FrameNo};
 ghost use Rattle.pre_base.specs.declared.limits.TheConstants.{GREATEST_FRAME};
 ghost use Rattle.pre_history.specs.Scenario.{FrameOf};
 ghost use Rattle.pre_history.specs.Rules.{arrival};
-ghost use Rattle.pre_incoming.specs.Landings.{HoldsFrame, result_of};
+ghost use Rattle.pre_incoming.specs.Landings.{HoldsFrame, Lands, result_of};
+ghost use Rattle.pre_incoming.specs.Wires.{Receives};
+ghost use Rattle.pre_history.specs.History.{History};
+ghost use Rattle.pre_history.specs.Placed.{moment_of};
+ghost use Rattle.pre_history.specs.Legal.{LegalBefore};
 ghost use Rattle.pre_bridge.specs.Inside.{Call, Entry};
 ghost use Rattle.pre_bridge.specs.Relays.{Stands};
 ghost use Rattle.pre_sim.specs.declared.halts.Halt.TheVariants.{Memory};
@@ -21,10 +26,8 @@ use crate::plans::{Plan, arc_at};
 use crate::telling::tell;
 use pre_base::{ArcId, FrameNo, GREATEST_FRAME, Tick};
 use pre_bridge::{Relay, route_law};
-use pre_history::{events_before_their_end, mpackets_in_order};
-
-use pre_incoming::Landed;
-use pre_links::Partner;
+use pre_incoming::{Incoming, Landed, Landing};
+use pre_links::{Partner, adverts_are_sent};
 use pre_rings::{FrameRef, FrameStore};
 use pre_topo::Network;
 use pre_trace::{Event, Outcome, Watcher};
@@ -47,34 +50,52 @@ pub(crate) fn arrive_on<W: Watcher>(
     requires reached { LaneReached (scenario_of plan.now) now.0 (Phase.arrivals arc.0) arc.0 None lane.old }
     requires stands { (calls : List Call) × Stands relay.old plan.now.net.now plan.now.streams.now calls }
     requires latest { relay.old.latest.0 ≤ now.0 }
-    ensures part { TellsPart plan.now.net.now result (W.took watcher.old) (W.took watcher.new) (W.torn watcher.new) (λ x es. ArrivalPart (scenario_of plan.now) now.0 arc.0 (count_of x) store.old store.new relay.old relay.new lane.old lane.new es) (LaneFront (scenario_of plan.now) now.0 (Phase.arrivals arc.0) arc.0 None lane.old) (LaneAlias (scenario_of plan.now) now.0 (Phase.arrivals arc.0) arc.0 None lane.old) }
+    ensures part { TellsPart plan.now.net.now result (W.took watcher.old) (W.took watcher.new) (W.torn watcher.new)
+        (λ x es. ArrivalPart (scenario_of plan.now) now.0 arc.0 (count_of x) store.old store.new relay.old relay.new lane.old lane.new es)
+        (LaneFront (scenario_of plan.now) now.0 (Phase.arrivals arc.0) arc.0 None lane.old) (LaneAlias (scenario_of plan.now) now.0 (Phase.arrivals arc.0) arc.0 None lane.old) }
     ensures link { lane.new.link ≡ lane.old.link }
     ensures latest { relay.new.latest.0 ≤ now.0 }
     ensures cause { HasCause (W.faults watcher.old) (W.faults watcher.new) result }
     ensures same { W.same watcher.old watcher.new }
 {
-    mpackets_in_order();
-    events_before_their_end();
+    adverts_are_sent();
     route_law();
     let mut octets = [0u8; GREATEST_FRAME as usize];
-    let Some(landing) = lane.incoming.land(&plan.inputs(), now, arc, &mut octets) else {
+    let Some(landing) = land(plan, now, arc, &mut lane.incoming, &mut octets) else {
         return Ok(false);
     };
-    let octets = &octets[..landing.size];
     let ordinal = landing.ord;
     let Some(outcome) = outcome_of(landing.given) else {
         return Err(Halt::Alias { arc, ordinal });
     };
-    listen(&mut lane.partner, now, landing.given, octets);
+    listen(&mut lane.partner, now, landing.given, landing.size, &octets);
     tell_arrival(plan.net, now, arc, ordinal, outcome, watcher)?;
     let Landed::Frame(frame) = landing.given else {
         return Ok(false);
     };
+    let octets = &octets[..landing.size];
     if keep_inside(plan, now, arc, frame, octets, relay, store)? {
         return Ok(false);
     }
     deliver(plan.net, now, arc, frame, octets, watcher)?;
     Ok(true)
+}
+
+/// What lands at the end of an arc; a frame stands at the front of `into`.
+fn land(
+    plan: &Plan,
+    now: Tick,
+    arc: ArcId,
+    incoming: &mut Incoming,
+    into: &mut [u8; GREATEST_FRAME as usize],
+) -> Option<Landing>
+    requires arc { arc.0 < length plan.now.net.now.arcs }
+    requires fit { AllFit plan.now.net.now plan.now.streams.now plan.now.script.now }
+    ensures lands { (h : History) → LegalBefore (scenario_of plan.now) h (moment_of (scenario_of plan.now) now.0 (Phase.arrivals arc.0))
+        → Receives (scenario_of plan.now) h arc.0 incoming.old → Lands (scenario_of plan.now) h now.0 arc.0 result into.new incoming.new }
+    ensures frame { IfSome result (λ x. HoldsFrame (scenario_of plan.now) x.size into.new x.given) }
+{
+    incoming.land(&plan.inputs(), now, arc, into)
 }
 
 /// The result that a trace tells; an alias has none.
@@ -94,21 +115,18 @@ fn outcome_of(given: Landed) -> Option<Outcome>
     }
 }
 
-/// Keeps what an arrival says of the partner.
-fn listen(partner: &mut Partner, now: Tick, given: Landed, octets: &[u8])
+/// Keeps what an arrival says of the partner; an LLDP frame stands at the front of the octets.
+fn listen(partner: &mut Partner, now: Tick, given: Landed, size: usize, octets: &[u8])
     requires now { now.0 ≤ 10 ^ 18 }
-    requires size { (given ≡ Lldp) → 18 ≤ length octets.now }
-    ensures { Listens now.0 given octets.now partner.old partner.new }
+    requires size { (given ≡ Lldp) → (18 ≤ size) × (size ≤ length octets.now) }
+    ensures hears { Listens now.0 given (take size octets.now) partner.old partner.new }
+    ensures unheard { (f : FrameNo) → given ≡ Frame f → partner.new ≡ partner.old }
 {
     match given {
-        Landed::Lldp => partner.lldp(now, octets),
+        Landed::Lldp => partner.lldp(now, &octets[..size]),
         Landed::Verify => partner.verify(now),
         Landed::Respond => partner.respond(now),
-        Landed::Lost
-        | Landed::Frame(_)
-        | Landed::Part
-        | Landed::Nothing
-        | Landed::Alias => {}
+        Landed::Lost | Landed::Frame(_) | Landed::Part | Landed::Nothing | Landed::Alias => {}
     }
 }
 
@@ -218,7 +236,9 @@ pub(crate) fn arrivals<W: Watcher>(
     requires stands { (calls : List Call) × Stands relay.old plan.now.net.now plan.now.streams.now calls }
     requires latest { relay.old.latest.0 ≤ now.0 }
     ensures ready { AreReady now.0 lanes.new }
-    ensures part { TellsPart plan.now.net.now result (W.took watcher.old) (W.took watcher.new) (W.torn watcher.new) (λ x es. ArrivalsPart (scenario_of plan.now) now.0 (1 + length plan.now.net.now.arcs) (length plan.now.net.now.arcs) x store.old store.new relay.old relay.new lanes.old lanes.new es) (LanesFront (scenario_of plan.now) now.0 (1 + length plan.now.net.now.arcs) lanes.old) (ArrivalsAlias (scenario_of plan.now) now.0 lanes.old) }
+    ensures part { TellsPart plan.now.net.now result (W.took watcher.old) (W.took watcher.new) (W.torn watcher.new)
+        (λ x es. ArrivalsPart (scenario_of plan.now) now.0 (1 + length plan.now.net.now.arcs) (length plan.now.net.now.arcs) x store.old store.new relay.old relay.new lanes.old lanes.new es)
+        (LanesFront (scenario_of plan.now) now.0 (1 + length plan.now.net.now.arcs) lanes.old) (ArrivalsAlias (scenario_of plan.now) now.0 lanes.old) }
     ensures latest { relay.new.latest.0 ≤ now.0 }
     ensures cause { HasCause (W.faults watcher.old) (W.faults watcher.new) result }
     ensures same { W.same watcher.old watcher.new }
