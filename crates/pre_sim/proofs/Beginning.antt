@@ -1,6 +1,6 @@
 -- At the beginning nothing is told, and all lanes are idle.
-use Rattle.std.proofs.Common.{ℕ, zero, suc, ◌≡◌, ◌+◌, ◌*◌, ◌<◌, List, [], refl, sym, ◌∙◌, ap, arith, subst, length, Some}
-use Rattle.std.specs.Prelude.{◌≤◌, ◌∷◌, replicate, slice_get, slice_index_or, map, take, drop}
+use Rattle.std.proofs.Common.{ℕ, Bool, zero, suc, ◌≡◌, ◌+◌, ◌*◌, ◌<◌, List, [], refl, sym, ◌∙◌, ap, arith, subst, length, Some}
+use Rattle.std.specs.Prelude.{◌≤◌, if◌then◌else◌, ◌∷◌, replicate, slice_get, slice_index_or, map, take, drop}
 use Rattle.std.specs.List.{AllByRecursion as Every}
 use Rattle.pre_topo.specs.declared.arcs.Arc.{Arc}
 use Rattle.pre_script.specs.declared.scripts.SetLine.{SetLine}
@@ -13,9 +13,10 @@ use Rattle.pre_bridge.specs.Relays.{Stands}
 use Rattle.pre_sim.specs.declared.lanes.Lane.{Lane}
 use Rattle.pre_sim.specs.Lanes.{IsIdle, AreIdle}
 use Rattle.pre_sim.specs.Stages.{untouched}
-use Rattle.pre_sim.specs.Stands.{AreRings, StillWaiting, LaneStands, Reaches, AreSentBefore, AreSetBefore}
+use Rattle.pre_sim.specs.Stands.{AreRings, StillWaiting, LaneStands, Reaches, AreSentBefore, AreSetBefore, sends_turn}
 use Rattle.pre_sim.specs.Keeps.{AreReady}
 use Rattle.pre_sim.specs.Views.{SimView, HasTold}
+use Rattle.pre_sim.proofs.NumberTests.{is_le}
 use Rattle.pre_sim.proofs.StepParts.{has_told}
 
 -- no ring of a lane at rest has a frame
@@ -61,17 +62,20 @@ reaches_nothing s next set sent delivered dropped idle stands =
       relay = stands;
       lanes = λ a lane at. idle_stands s.run a lane (idle.each a lane at);
       sets = record { within = omega (arith, set); past = subst (λ n. Every (λ l. l.tick.0 < 0) (take n s.run.script.sets)) (sym set) tt; later = always (λ (l : SetLine). 0 ≤ l.tick.0) (drop s.progress.set s.run.script.sets) (λ l. omega arith) };
-      sends = record {
+      sends = subst (λ n. AreSentBefore s.run n s.progress.sent) (sym (sends_first (length s.run.net.arcs))) (record {
         within = omega (arith, sent);
         past = λ k lt. absurd (omega (arith, lt, sent));
         later = λ k from below. omega arith;
-      };
+      });
       deliveries = delivered;
       drops = dropped;
     })
   where
     none : (m : ℕ) → 0 * m + 0 ≡ 0
     none m = omega arith
+
+    sends_first : (arcs : ℕ) → sends_turn arcs 0 0 ≡ 0
+    sends_first arcs = ap (λ (b : Bool). if b then 0 else 1) (is_le 0 (1 + 3 * arcs) (omega arith))
 
 pub has_told_nothing : (s : SimView) → s.next ≡ 0 → s.progress.set ≡ 0 → s.progress.sent ≡ 0 → s.progress.delivered ≡ 0 → s.progress.dropped ≡ 0 → AreIdle s.run.net s.progress.lanes.items
     → Stands s.progress.relay s.run.net s.run.streams [] → HasTold s []

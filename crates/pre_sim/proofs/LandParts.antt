@@ -1,6 +1,6 @@
 -- What is set, ends, arrives and expires at a tick, one part after another.
 use Rattle.std.proofs.Common.{ℕ, ◌≡◌, ◌+◌, ◌*◌, ◌^◌, ◌-◌, ◌<◌, ◌≤◌, Bool, List, [], ◌++◌, length, refl, sym, ◌∙◌, ap, arith, subst, length-append, append_assoc}
-use Rattle.std.specs.Prelude.{count_by, min}
+use Rattle.std.specs.Prelude.{count_by, min, if◌then◌else◌}
 use Rattle.std.proofs.lemmas.List.{append-nil}
 use Rattle.std.proofs.lemmas.List.Elements.{filter_map-append}
 use Rattle.pre_history.specs.Scenario.{Scenario}

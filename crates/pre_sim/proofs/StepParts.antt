@@ -1,5 +1,9 @@
 -- What a step tells, by what its tick told.
-use Rattle.std.proofs.Common.{ℕ, ◌≡◌, ◌+◌, Bool, true, false, List, [], ◌∷◌, ◌++◌, sym, subst, Err}
+use Rattle.std.proofs.Common.{ℕ, ◌≡◌, ◌+◌, ◌≤◌, Bool, true, false, List, [], ◌∷◌, ◌++◌, sym, ◌∙◌, ap, inl, inr, arith, subst, Err}
+use Rattle.std.specs.Prelude.{◌↔◌, IsTrue}
+use Rattle.std.proofs.lemmas.Bool.{cases_eq, false≢true}
+use Rattle.pre_base.specs.declared.numbers.Tick.{Tick}
+use Rattle.pre_sim.specs.Keeps.{IsKept}
 use Rattle.pre_history.specs.Scenario.{Scenario}
 use Rattle.pre_history.specs.History.{PlainEvent, History}
 use Rattle.pre_history.specs.Written.{IsWritten, AreWritten}
@@ -63,3 +67,21 @@ module _ (s v u : SimView) (same : s ≡ v) (a b : Takes) (torn : Fails) (d : Ha
 
   pub finds_no_memory : d ≡ Memory → StepTells s step.Memory u a b torn
   finds_no_memory is = tells_part s v u same a b torn (subst Told is told)
+
+-- an alias by equal names
+pub same_alias : (s u : SimView) (a b : Takes) (torn : Fails) (x y : ArcId) (m n : ℕ) → x ≡ y → m ≡ n → StepTells s (step.Alias y n) u a b torn → StepTells s (step.Alias x m) u a b torn
+same_alias s u a b torn x y m n is_x is_m told =
+    subst (λ (z : ArcId). StepTells s (step.Alias z m) u a b torn) (sym is_x) (subst (λ (k : ℕ). StepTells s (step.Alias y k) u a b torn) (sym is_m) told)
+
+-- ---- before the next tick
+
+-- it isn't the last tick
+pub not_last : (last : Bool) (now until : Tick) → last ≡ false → (IsTrue last ↔ (now ≡ until)) → now.0 ≤ until.0 → now.0 + 1 ≤ until.0
+not_last last now until off says le = elim (cases_eq now.0 until.0) [
+  | inl same ↦ absurd (false≢true (sym off ∙ says.1 (ap (λ (n : ℕ). record { 0 = n }) same)))
+  | inr other ↦ omega (arith, le, other)
+]
+
+-- what is kept at a tick is at the next one
+pub kept_later : (w : Scenario) (t : ℕ) (p : Progress) → IsKept w t p → IsKept w (t + 1) p
+kept_later w t p kept = record { calls = kept.calls; stands = kept.stands; latest = omega (arith, kept.latest); keeps = kept.keeps }

@@ -8,5 +8,5 @@ use Rattle.pre_sim.proofs.lanes.idle_lanes.Given as goal
 abbrev pub invariant-loop-arc : goal.invariant-loop-arc
 invariant-loop-arc l = record {
   long : vec_len l.lanes ≡ l.arc-index;
-  each : (a : ℕ) (lane : Lane) → slice_get l.lanes.items a ≡ Some lane → IsIdle (slice_index_or l.arcs a no_arc).rings lane;
+  each : (a : ℕ) (lane : Lane) → slice_get l.lanes.items a ≡ Some lane → IsIdle l.fn.net.timing (slice_index_or l.arcs a no_arc) lane;
 }

@@ -1,7 +1,7 @@
-use Rattle.std.proofs.Common.{refl, sym, ◌+◌}
-use Rattle.pre_sim.specs.Parts.{scenario_of}
+use Rattle.std.proofs.Common.{rules, refl, sym, subst, ◌+◌, ◌++◌}
+use Rattle.pre_sim.specs.Parts.{TickPart, AdvancePart, scenario_of}
 use Rattle.pre_sim.specs.Views.{SimView}
-use Rattle.pre_sim.proofs.StepParts.{tells_more, tells_ended, stops, finds_alias, finds_no_memory}
+use Rattle.pre_sim.proofs.StepParts.{tells_more, tells_ended, stops, finds_alias, finds_no_memory, same_alias, not_last, kept_later}
 use Rattle.pre_sim.proofs.runs.Sim.step.Goals as goal
 
 pub returns-in-Ok-true-clause-told : goal.returns-in-Ok-true-clause-told
@@ -25,3 +25,27 @@ pub returns-in-Err-Memory-clause-told : goal.returns-in-Err-Memory-clause-told
 returns-in-Err-Memory-clause-told g c =
     let old : SimView = record { run = scenario_of c.self.inside.plan; progress = c.self.inside.progress; next = c.self.inside.next.0; going = c.self.inside.going } in
     finds_no_memory c.args.self.now old old (sym c.self.view_is) (g.W.Watcher.took c.args.watcher.now) (g.W.Watcher.took c.advance.new.watcher) (g.W.Watcher.torn c.advance.new.watcher) c.in-Err-Memory.field-0 _ c.in-Err-Memory.ensures.part c.in-Err-Memory.field-0-is
+
+pub returns-in-Err-Alias-clause-told : goal.returns-in-Err-Alias-clause-told
+returns-in-Err-Alias-clause-told g c =
+    let s = c.args.self.now in
+    let old : SimView = record { run = scenario_of c.self.inside.plan; progress = c.self.inside.progress; next = c.self.inside.next.0; going = c.self.inside.going } in
+    let told = finds_alias s old old (sym c.self.view_is) (g.W.Watcher.took c.args.watcher.now) (g.W.Watcher.took c.advance.new.watcher) (g.W.Watcher.torn c.advance.new.watcher) c.in-Err-Alias.field-0 _ c.in-Err-Alias.ensures.part c.in-Err-Alias.arc c.in-Err-Alias.ordinal c.in-Err-Alias.field-0-is in
+    same_alias s old (g.W.Watcher.took c.args.watcher.now) (g.W.Watcher.took c.advance.new.watcher) (g.W.Watcher.torn c.advance.new.watcher) _ c.in-Err-Alias.arc _ c.in-Err-Alias.ordinal c.in-Err-Alias.arc-is c.in-Err-Alias.ordinal-is told
+
+pub advance-requires-clause-ready : goal.advance-requires-clause-ready
+advance-requires-clause-ready g c = (c.self.invariant.3 (search rules)).2
+
+pub invariant_of-self-in-Ok-false : goal.invariant_of-self-in-Ok-false
+invariant_of-self-in-Ok-false g c =
+    let before = c.self.invariant in
+    let reached = (before.3 (search rules)).3 in
+    let w = scenario_of c.self.inside.plan in
+    let done = c.in-Ok-false.ensures in
+    let tick : TickPart w c.self.inside.next.0 c.self.inside.progress c.advance.new.progress done.part.0 =
+        subst (λ x. AdvancePart w c.self.inside.next.0 c.self.inside.progress c.advance.new.progress x done.part.0) c.in-Ok-false.field-0-test done.part.2 in (
+      before.0,
+      done.lanes,
+      not_last c.in-Ok-false.field-0 c.self.inside.next c.self.inside.plan.script.now.until c.in-Ok-false.field-0-test done.last before.2,
+      λ going. (done.counts, kept_later w c.self.inside.next.0 c.advance.new.progress done.kept, done.ready, (reached.0 ++ done.part.0, tick reached.0 reached.1)),
+    )
