@@ -10,4 +10,9 @@ pub mod Rows
 pub mod Readiness
 pub mod EndParts
 pub mod ExpiryParts
+pub mod WaitingNow
+pub mod LeftRings
+pub mod ItemsThere
+pub mod BegunLanes
+pub mod StartParts
 pub mod TickParts

@@ -47,7 +47,10 @@ pub(crate) fn start_on<W: Watcher>(
     events_before_their_end();
     let link = arc_at(plan.net, arc);
     if !lane.outgoing.free(now) {
-        let waits = lane.rings.highest(Prio(link.express_from), Prio(7)).is_some();
+        let waits = lane
+            .rings
+            .highest(Prio(link.express_from), Prio(7))
+            .is_some();
         lane.outgoing.settle(now, waits);
         return Ok(());
     }
