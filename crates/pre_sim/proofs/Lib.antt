@@ -14,5 +14,6 @@ pub mod WaitingNow
 pub mod LeftRings
 pub mod ItemsThere
 pub mod BegunLanes
+pub mod RingStarts
 pub mod StartParts
 pub mod TickParts
