@@ -1,6 +1,5 @@
-ghost use Rattle.std.specs.Prelude.{◌≡◌, ◌<◌, ◌≤◌, ◌+◌, ◌*◌, ◌^◌, List, [], Some, true, false, length, slice_get};
+ghost use Rattle.std.specs.Prelude.{◌≡◌, ◌<◌, ◌≤◌, ◌+◌, ◌*◌, ◌^◌, List, [], Some, true, false, length, slice_get, IfNone};
 ghost use Rattle.pre_send.specs.Senders.{is_free, is_interrupted};
-ghost use Rattle.pre_topo.specs.declared.arcs.Mode.TheVariants.{Negotiate};
 ghost use Rattle.pre_links.specs.Standing.{IsUpTo};
 ghost use Rattle.pre_bridge.specs.Inside.{Entry};
 ghost use Rattle.pre_history.specs.Moments.{Phase};
@@ -98,9 +97,7 @@ fn begin_on(
     if let Some(frame) = take_first(&mut lane.rings, Prio(link.express_from), Prio(7)) {
         return Some(lane.outgoing.begin(now, Choice::Express(frame)));
     }
-    if link.mode == Mode::Negotiate
-        && let Some(begun) = begin_for_link(plan, now, arc, link, lane, partner)
-    {
+    if let Some(begun) = begin_for_link(plan, now, arc, link, lane, partner) {
         return Some(begun);
     }
     if lane.outgoing.is_interrupted() {
@@ -109,7 +106,7 @@ fn begin_on(
     begin_preemptable(plan, now, arc, link, lane, partner)
 }
 
-/// What begins for the link of an arc that negotiates: a respond, a verify or an LLDP frame.
+/// What begins for the link of an arc, where it negotiates: a respond, a verify or an LLDP frame.
 fn begin_for_link(
     plan: &Plan,
     now: Tick,
@@ -120,14 +117,17 @@ fn begin_for_link(
 ) -> Option<Begun>
     requires arc { arc.0 < length plan.now.net.now.arcs }
     requires link { slice_get plan.now.net.now.arcs arc.0 ≡ Some link.now }
-    requires mode { link.now.mode ≡ Negotiate }
     requires now { now.0 ≤ 4 * 10 ^ 12 }
     requires free { is_free lane.old.outgoing.sender now.0 ≡ true }
     requires settled { IsUpTo lane.old.link now.0 }
     ensures starts { Starts (scenario_of plan.now) now.0 arc.0 partner.now 2 5 lane.old lane.new result }
+    ensures none { IfNone result (lane.new ≡ lane.old) }
     ensures keeps { (store : Store) → KeepsOn (scenario_of plan.now) arc.0 store store lane.old lane.new [] }
     ensures settled { IsUpTo lane.new.link now.0 }
 {
+    if link.mode != Mode::Negotiate {
+        return None;
+    }
     if lane.link.owes_respond(partner) {
         lane.link.respond_begun(now);
         return Some(lane.outgoing.begin(now, Choice::Respond));

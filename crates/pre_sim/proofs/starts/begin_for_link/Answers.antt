@@ -1,4 +1,4 @@
-use Rattle.std.proofs.Common.{◌≡◌, ◌+◌, ◌*◌, ◌<◌, ◌∙◌, ap, refl, sym, arith, rules, false, length, [], ◌∷◌, ◌++◌}
+use Rattle.std.proofs.Common.{◌≡◌, ◌≢◌, ◌+◌, ◌*◌, ◌<◌, ◌∙◌, ap, refl, sym, arith, rules, false, length, [], ◌∷◌, ◌++◌}
 use Rattle.pre_topo.specs.declared.arcs.Arc.{Arc}
 use Rattle.pre_topo.specs.declared.arcs.Mode.TheVariants as mode
 use Rattle.pre_mpacket.specs.declared.packets.Kind.TheVariants as kind
@@ -12,9 +12,20 @@ use Rattle.pre_sim.specs.Parts.{scenario_of}
 use Rattle.pre_sim.proofs.Keeping.{keep_same, keep_lane}
 use Rattle.pre_sim.proofs.Lists.{read_at}
 use Rattle.pre_sim.proofs.LeftRings.{rings_stay}
-use Rattle.pre_sim.proofs.ItemsThere.{none_more, first_begins, no_item}
+use Rattle.pre_sim.proofs.ItemsThere.{none_more, none_for_link, first_begins, no_item}
 use Rattle.pre_sim.proofs.BegunLanes.{started}
 use Rattle.pre_sim.proofs.starts.begin_for_link.Goals as goal
+
+pub returns-then-ne-clause-starts : goal.returns-then-ne-clause-starts
+returns-then-ne-clause-starts c = λ h items legal hears stand free none.
+    let w : Scenario = scenario_of c.args.plan.now in
+    let a = c.args.arc.0 in
+    let its : arc w a ≡ c.args.link.now = read_at w.net.arcs a c.args.link.now no_arc c.requires.link in
+    let off : c.args.link.now.mode ≢ mode.Negotiate = search rules in
+    (none_for_link w h a c.args.now.0 (λ on. off (ap (λ (x : Arc). x.mode) (sym its) ∙ on)) none, refl)
+
+pub returns-then-ne-clause-keeps : goal.returns-then-ne-clause-keeps
+returns-then-ne-clause-keeps c = λ store. keep_same (scenario_of c.args.plan.now) c.args.arc.0 store c.args.lane.now
 
 pub returns-then-owes_respond-clause-starts : goal.returns-then-owes_respond-clause-starts
 returns-then-owes_respond-clause-starts c = λ h items legal hears stand free none.
@@ -24,7 +35,8 @@ returns-then-owes_respond-clause-starts c = λ h items legal hears stand free no
     let old = c.args.lane.now in
     let new : Lane = record { rings = old.rings; outgoing = c.begin.new.self; incoming = old.incoming; partner = old.partner; setting = old.setting; link = c.respond_begun.new.self } in
     let its : arc w a ≡ c.args.link.now = read_at w.net.arcs a c.args.link.now no_arc c.requires.link in
-    let negotiates : (arc w a).mode ≡ mode.Negotiate = ap (λ (x : Arc). x.mode) its ∙ c.requires.mode in
+    let on : c.args.link.now.mode ≡ mode.Negotiate = search rules in
+    let negotiates : (arc w a).mode ≡ mode.Negotiate = ap (λ (x : Arc). x.mode) its ∙ on in
     let owed = (c.owes_respond.ensures w h a t c.requires.arc legal.0 (stand.link negotiates) hears).0 (search rules) in
     let rule = first_begins w h a t free Item.respond (without_octets kind.Respond) (negotiates, owed, refl) none in
     let begun = c.begin.ensures.begins w h a t false (without_octets kind.Respond) c.requires.arc legal.0 stand.outgoing rule refl in
@@ -46,7 +58,8 @@ returns-then-wants_verify-clause-starts c = λ h items legal hears stand free no
     let old = c.args.lane.now in
     let new : Lane = record { rings = old.rings; outgoing = c.begin-then-wants_verify.new.self; incoming = old.incoming; partner = old.partner; setting = old.setting; link = c.verify_begun.new.self } in
     let its : arc w a ≡ c.args.link.now = read_at w.net.arcs a c.args.link.now no_arc c.requires.link in
-    let negotiates : (arc w a).mode ≡ mode.Negotiate = ap (λ (x : Arc). x.mode) its ∙ c.requires.mode in
+    let on : c.args.link.now.mode ≡ mode.Negotiate = search rules in
+    let negotiates : (arc w a).mode ≡ mode.Negotiate = ap (λ (x : Arc). x.mode) its ∙ on in
     let no_respond = no_item c.owes_respond.result (c.owes_respond.ensures w h a t c.requires.arc legal.0 (stand.link negotiates) hears) c.if-owes_respond.false in
     let wanted = (c.wants_verify.ensures.wanted w h a c.requires.arc legal.0 (stand.link negotiates) free).0 (search rules) in
     let rule = first_begins w h a t free Item.verify (without_octets kind.Verify) (negotiates, wanted, refl) (none_more w h a t Item.respond 2 refl none (λ c there. no_respond there.1)) in
@@ -67,7 +80,8 @@ returns-then-not-wants_lldp-clause-starts c = λ h items legal hears stand free 
     let t = c.args.now.0 in
     let a = c.args.arc.0 in
     let its : arc w a ≡ c.args.link.now = read_at w.net.arcs a c.args.link.now no_arc c.requires.link in
-    let negotiates : (arc w a).mode ≡ mode.Negotiate = ap (λ (x : Arc). x.mode) its ∙ c.requires.mode in
+    let on : c.args.link.now.mode ≡ mode.Negotiate = search rules in
+    let negotiates : (arc w a).mode ≡ mode.Negotiate = ap (λ (x : Arc). x.mode) its ∙ on in
     let no_respond = no_item c.owes_respond.result (c.owes_respond.ensures w h a t c.requires.arc legal.0 (stand.link negotiates) hears) c.if-owes_respond.false in
     let no_verify = no_item c.wants_verify.result (c.wants_verify.ensures.wanted w h a c.requires.arc legal.0 (stand.link negotiates) free) c.if-wants_verify.false in
     let no_lldp = no_item c.wants_lldp.result (c.wants_lldp.ensures w h a t c.requires.arc legal.0 (stand.link negotiates)) c.if-not-wants_lldp.true in (
@@ -95,7 +109,8 @@ returns-clause-starts c = λ h items legal hears stand free none.
     let old = c.args.lane.now in
     let new : Lane = record { rings = old.rings; outgoing = c.begin_lldp.new.self; incoming = old.incoming; partner = old.partner; setting = old.setting; link = c.lldp_begun.new.self } in
     let its : arc w a ≡ c.args.link.now = read_at w.net.arcs a c.args.link.now no_arc c.requires.link in
-    let negotiates : (arc w a).mode ≡ mode.Negotiate = ap (λ (x : Arc). x.mode) its ∙ c.requires.mode in
+    let on : c.args.link.now.mode ≡ mode.Negotiate = search rules in
+    let negotiates : (arc w a).mode ≡ mode.Negotiate = ap (λ (x : Arc). x.mode) its ∙ on in
     let no_respond = no_item c.owes_respond.result (c.owes_respond.ensures w h a t c.requires.arc legal.0 (stand.link negotiates) hears) c.if-owes_respond.false in
     let no_verify = no_item c.wants_verify.result (c.wants_verify.ensures.wanted w h a c.requires.arc legal.0 (stand.link negotiates) free) c.if-wants_verify.false in
     let wanted = (c.wants_lldp.ensures w h a t c.requires.arc legal.0 (stand.link negotiates)).0 c.if-not-wants_lldp.false in
