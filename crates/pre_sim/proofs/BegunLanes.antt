@@ -8,6 +8,7 @@ use Rattle.pre_topo.specs.declared.arcs.Mode.TheVariants as mode
 use Rattle.pre_topo.specs.Arcs.{reverse_of}
 use Rattle.pre_mpacket.specs.declared.packets.Kind.{Kind}
 use Rattle.pre_mpacket.specs.declared.packets.Kind.TheVariants as kind
+use Rattle.pre_mpacket.specs.Arrivals.{is_continue}
 use Rattle.pre_mpacket.specs.Pieces.{least_fragment}
 use Rattle.pre_history.specs.declared.events.What.{What}
 use Rattle.pre_history.specs.declared.events.What.TheVariants as what
@@ -32,7 +33,8 @@ use Rattle.pre_incoming.specs.Wires.{Receives}
 use Rattle.pre_incoming.proofs.OnAir.{others_stay}
 use Rattle.pre_links.specs.declared.partners.Partner.{Partner}
 use Rattle.pre_links.specs.Listening.{Hears}
-use Rattle.pre_links.specs.Standing.{LinkStands, begin_of}
+use Rattle.pre_links.specs.Standing.{IsOther, LinkStands, begin_of}
+use Rattle.pre_links.proofs.Begun.{other_begin}
 use Rattle.pre_links.proofs.Phases.{still_hears}
 use Rattle.pre_outgoing.specs.declared.outgoing.Begun.{Begun}
 use Rattle.pre_outgoing.specs.Sends.{HasBegun, next_begin}
@@ -42,7 +44,7 @@ use Rattle.pre_sim.specs.Stages.{untouched, entered}
 use Rattle.pre_sim.specs.Stands.{AreRings, AreInside, LaneStands, onward}
 use Rattle.pre_sim.specs.Parts.{LegalAt, its_place}
 use Rattle.pre_sim.specs.Starting.{choice_of, begin_event, StartsAs}
-use Rattle.pre_sim.proofs.LeftRings.{one_more_begins}
+use Rattle.pre_sim.proofs.LeftRings.{one_more_begins, rings_stay}
 use Rattle.pre_sim.proofs.Lists.{within, every_drop, every_placed, get_front}
 use Rattle.pre_sim.proofs.NumberTests.{not_eq}
 
@@ -134,3 +136,25 @@ rest_later w fit h t a a_lt legal c (r, interrupted, is) f =
     and_no : (x : Bool) → (x && false) ≡ false
     and_no true = refl
     and_no false = refl
+
+-- it is nothing for the link either
+rest_other : (w : Scenario) (h : History) (a t : ℕ) (c : Choice) → There w h a t Item.rest c → IsOther c
+rest_other w h a t c (r, interrupted, is) = record {
+  no_verify = λ verify. cc (ap (λ (x : Choice). x.kind) is, verify);
+  no_respond = λ respond. cc (ap (λ (x : Choice). x.kind) is, respond);
+  no_lldp = λ lldp. cc (ap (λ (x : Choice). x.what) is, lldp);
+}
+
+pub rest_continues : (w : Scenario) (h : History) (a t : ℕ) (c : Choice) → There w h a t Item.rest c → is_continue c.kind ≡ true
+rest_continues w h a t c (r, interrupted, is) = ap (λ (x : Choice). is_continue x.kind) is
+
+module _ (w : Scenario) (fit : AllFit w.net w.streams w.script) (t a : ℕ) (a_lt : a < length w.net.arcs) (h : History) (items : List Entry) (old new : Lane) (c : Choice) (b : Begun)
+    (legal : LegalAt w t (its_place w (Phase.starts a)) h) (stand : LaneStands w h a (entered t) old items) (rule : StartRule w h a t c) (begun : HasBegun w h t a c b new.outgoing)
+    (rings : new.rings ≡ old.rings) (incoming : new.incoming ≡ old.incoming) (partner : new.partner ≡ old.partner) (setting : new.setting ≡ old.setting) (link : new.link ≡ old.link) (there : There w h a t Item.rest c) where
+  -- the rest of the interrupted frame begins
+  pub rest_started : (heard : Partner) (from to : ℕ) → StartsAs w t a heard from to old new (Some b) h items
+  rest_started heard from to =
+      started w t a a_lt h items old new c b legal stand rule begun incoming partner setting
+      (subst (AreRings w (h ++ PlainEvent.begin (next_begin h t a c) ∷ []) a) (sym rings) (rings_stay h a (next_begin h t a c) refl w old.rings (rest_later w fit h t a a_lt legal.0 c there) stand.rings))
+      (λ negotiates. subst (LinkStands w (h ++ begin_of h a t c ∷ []) a (t + 1)) (sym link) (other_begin w h a t c a_lt legal.0 old.link (stand.link negotiates) (rest_other w h a t c there)))
+      heard from to

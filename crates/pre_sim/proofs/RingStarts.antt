@@ -1,5 +1,5 @@
 -- A frame that waited in a ring begins.
-use Rattle.std.proofs.Common.{ℕ, ◌≡◌, ◌≢◌, ◌+◌, ◌<◌, ◌≤◌, List, [], ◌∷◌, ◌++◌, length, refl, sym, ◌∙◌, ap, arith, subst, Some}
+use Rattle.std.proofs.Common.{ℕ, ◌≡◌, ◌≢◌, ◌+◌, ◌<◌, ◌≤◌, List, [], ◌∷◌, ◌++◌, length, refl, sym, ◌∙◌, ap, arith, subst, Option, Some, None}
 use Rattle.std.specs.Prelude.{slice_get}
 use Rattle.std.specs.List.{AllByRecursion as Every}
 use Rattle.pre_base.specs.declared.limits.TheConstants.{LEAST_FRAME, GREATEST_FRAME}
@@ -12,7 +12,9 @@ use Rattle.pre_history.specs.declared.events.What.TheVariants as what
 use Rattle.pre_history.specs.Scenario.{Scenario, arc, no_arc, FrameOf}
 use Rattle.pre_history.specs.History.{History}
 use Rattle.pre_history.specs.Moments.{Phase}
-use Rattle.pre_history.specs.Starts.{StartRule, whole_frame}
+use Rattle.pre_history.specs.Starts.{Choice, Item, There, StartRule, whole_frame}
+use Rattle.pre_history.specs.Placed.{moment_of}
+use Rattle.pre_history.specs.Legal.{LegalUpTo}
 use Rattle.pre_history.proofs.Undamaged.{length-FrameOf}
 use Rattle.pre_laws.proofs.Fitting.{is_routed}
 use Rattle.pre_bridge.specs.Inside.{Entry}
@@ -25,14 +27,15 @@ use Rattle.pre_outgoing.specs.Sends.{HasBegun, next_begin}
 use Rattle.pre_sim.specs.declared.lanes.Lane.{Lane}
 use Rattle.pre_sim.specs.Reach.{AllFit}
 use Rattle.pre_sim.specs.Keeps.{Store, Waits, LaneKeeps}
-use Rattle.pre_sim.specs.Choices.{LeavesFirst}
+use Rattle.pre_sim.specs.Choices.{NoneWaits, LeavesFirst}
 use Rattle.pre_sim.specs.Stages.{entered}
-use Rattle.pre_sim.specs.Stands.{LaneStands}
+use Rattle.pre_sim.specs.Stands.{AreRings, LaneStands}
 use Rattle.pre_sim.specs.Parts.{LegalAt, its_place}
 use Rattle.pre_sim.specs.Starting.{StartsAs}
 use Rattle.pre_sim.proofs.BegunLanes.{started}
 use Rattle.pre_sim.proofs.LeftRings.{rings_left}
 use Rattle.pre_sim.proofs.Lists.{read_at}
+use Rattle.pre_sim.proofs.WaitingNow.{no_front}
 
 -- the least express priority of an arc is one of the eight, and not the least of all
 pub express_from_within : (w : Scenario) (a : ℕ) (link : Arc) → a < length w.net.arcs → slice_get w.net.arcs a ≡ Some link → (1 ≤ link.express_from) × (link.express_from ≤ 7)
@@ -44,6 +47,18 @@ express_from_within w a link a_lt found =
 pub same_lane : (old : Lane) (rings : Port) → rings ≡ old.rings
     → record { rings = rings; outgoing = old.outgoing; incoming = old.incoming; partner = old.partner; setting = old.setting; link = old.link } ≡ old
 same_lane old rings is i = record { rings = is i; outgoing = old.outgoing; incoming = old.incoming; partner = old.partner; setting = old.setting; link = old.link }
+
+-- where the express rings are empty, no express frame is there
+pub none_express : (w : Scenario) (h : History) (t a : ℕ) → a < length w.net.arcs → LegalUpTo w (moment_of w t (Phase.starts a)) h → (rings : Port) → AreRings w h a rings → (link : Arc) → slice_get w.net.arcs a ≡ Some link
+    → NoneWaits link.express_from 7 rings → (c : Choice) → ¬ There w h a t Item.express c
+none_express w h t a a_lt legal rings are link found none c (f, front, is) =
+    no_front w h t a a_lt legal rings are (arc w a).express_from 7 8 f refl (subst (λ (x : Arc). NoneWaits x.express_from 7 rings) (sym (read_at w.net.arcs a link no_arc found)) none) front
+
+-- what begins, or that nothing does, from a lane that stayed till then
+pub starts_since : (w : Scenario) (t a : ℕ) (heard : Partner) (from since to : ℕ) (old mid new : Lane) (b : Option Begun) (h : History) (items : List Entry) → mid ≡ old
+    → StartsAs w t a heard since to mid new b h items → StartsAs w t a heard from to old new b h items
+starts_since w t a heard from since to old mid new None h items same (none, stays) = (none, stays ∙ same)
+starts_since w t a heard from since to old mid new (Some b) h items same starts = starts
 
 -- a kind in which a frame begins
 abbrev pub IsFirstKind : Kind → Type 0
