@@ -78,9 +78,9 @@ module _ (w : Scenario) (h : History) (a t : ℕ) where
   first_begins free i c there none = (free, (i, there, λ j d lt. none j d lt))
 
   -- nothing begins on an occupied arc, nor where nothing is there
-  pub busy_starts : Occupied w h a t → HappensIn w h t (Phase.starts a) []
+  pub busy_starts : (¬ Occupied w h a t → ⊥) → HappensIn w h t (Phase.starts a) []
   unfolding HappensIn StartRule
-  busy_starts busy = inr ((λ e due. due.1.0 busy), refl)
+  busy_starts busy = inr ((λ e due. busy due.1.0), refl)
 
   pub idle_starts : NoneBelow w h a t 7 → HappensIn w h t (Phase.starts a) []
   unfolding HappensIn StartRule

@@ -3,7 +3,10 @@ use Rattle.std.proofs.Common.{ℕ, suc, ◌≡◌, ◌+◌, ◌*◌, ◌<◌, �
 use Rattle.std.specs.Prelude.{slice_get, set}
 use Rattle.std.proofs.lemmas.List.{append-nil}
 use Rattle.pre_topo.specs.Arcs.{reverse_of}
-use Rattle.pre_rings.specs.Ports.{Port}
+use Rattle.pre_mpacket.specs.declared.packets.Kind.{Kind}
+use Rattle.pre_mpacket.specs.declared.packets.Kind.TheVariants as kind
+use Rattle.pre_mpacket.specs.Spelling.{HasCounts}
+use Rattle.pre_history.specs.Plain.{IsKind}
 use Rattle.pre_history.specs.Scenario.{Scenario}
 use Rattle.pre_history.specs.History.{PlainEvent, History}
 use Rattle.pre_history.specs.Moments.{Phase}
@@ -49,6 +52,14 @@ settled_lane w h t a old new items rings incoming partner setting link stand sen
   link = λ negotiates. subst (LinkStands w h a (t + 1)) (sym link) (stand.link negotiates);
   inside = stand.inside;
 }
+
+-- what a sender tells of its counts is what a begin event asks
+pub kind_counts : (k : Kind) → HasCounts k → IsKind k
+kind_counts (kind.Start c) counts = counts
+kind_counts (kind.Continue c n) counts = counts
+kind_counts kind.Express counts = tt
+kind_counts kind.Verify counts = tt
+kind_counts kind.Respond counts = tt
 
 module _ (w : Scenario) (t a : ℕ) (a_lt : a < length w.net.arcs) (heard : Partner) (old new : Lane) where
   abbrev A : ℕ

@@ -1,5 +1,8 @@
 -- What waits for an arc when its starts come: what its rings hold.
-use Rattle.std.proofs.Common.{ℕ, ◌≡◌, ◌≢◌, ◌==◌, ◌&&◌, ◌+◌, ◌*◌, ◌<◌, ◌≤◌, nat_lt, nat_le, not, Bool, List, [], ◌∷◌, length, refl, sym, ◌∙◌, ap, arith, inl, inr, map, filter}
+use Rattle.std.proofs.Common.{ℕ, ◌≡◌, ◌≢◌, ◌==◌, ◌&&◌, ◌+◌, ◌*◌, ◌<◌, ◌≤◌, nat_lt, nat_le, not, Bool, List, [], ◌∷◌, length, refl, sym, ◌∙◌, ap, arith, subst, inl, inr, map, filter, Option, Some, None}
+use Rattle.std.specs.Prelude.{IfSome, IfNone, is_some}
+use Rattle.std.specs.Bool.{Decides}
+use Rattle.std.proofs.lemmas.Bool.{false≢true}
 use Rattle.std.specs.List.{list_any, AllByRecursion as Every}
 use Rattle.std.proofs.Math.Path.{fun_ext}
 use Rattle.std.proofs.Math.Bool.{and-true}
@@ -69,7 +72,7 @@ module _ (w : Scenario) (h : History) (t a : ℕ) (a_lt : a < length w.net.arcs)
   )
 
   -- an express frame waits where a ring of an express priority has one
-  pub express_waits : (p : ℕ) → (arc w a).express_from ≤ p → p ≤ 7 → 0 < length (frames_at rings p) → ExpressWaits w h a t
+  express_waits : (p : ℕ) → (arc w a).express_from ≤ p → p ≤ 7 → 0 < length (frames_at rings p) → ExpressWaits w h a t
   express_waits p from most some = (p, from, omega (arith, most), some_there (frames_at rings p) (waits p) some)
     where
       some_there : (fs : List FrameRef) → Waiting h a p t ≡ map (λ (f : FrameRef). f.frame.0) fs → 0 < length fs → Waiting h a p t ≢ []
@@ -77,8 +80,15 @@ module _ (w : Scenario) (h : History) (t a : ℕ) (a_lt : a < length w.net.arcs)
       some_there (f ∷ fs) is some none = cc (is, none)
 
   -- and else none does
-  pub no_express : NoneWaits (arc w a).express_from 7 rings → ¬ ExpressWaits w h a t
+  no_express : NoneWaits (arc w a).express_from 7 rings → ¬ ExpressWaits w h a t
   no_express none (p, from, below, some) = some (none_waits p (none p from (omega (arith, below))))
+
+  -- so the highest ring of an express priority with a frame decides it
+  pub express_decided : (from : ℕ) → (arc w a).express_from ≡ from → (o : Option ℕ) → IfSome o (λ p. (from ≤ p) × (p ≤ 7)) → IfSome o (λ p. 0 < length (frames_at rings p))
+      → IfNone o (NoneWaits from 7 rings) → Decides (is_some o) (ExpressWaits w h a t)
+  express_decided from is (Some p) within some none = ((λ passes. express_waits p (omega (arith, is, within.0)) within.1 some), λ waits. refl)
+  express_decided from is None within some none =
+      ((λ passes. absurd (false≢true passes)), λ waits. absurd (no_express (subst (λ n. NoneWaits n 7 rings) (sym is) none) waits))
 
 -- where none is in front, no express frame waits
 pub none_in_front : (w : Scenario) (h : History) (a t : ℕ) → ((c : Choice) → ¬ There w h a t Item.express c) → ¬ ExpressWaits w h a t

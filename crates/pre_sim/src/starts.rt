@@ -1,4 +1,5 @@
-ghost use Rattle.std.specs.Prelude.{◌≡◌, ◌<◌, ◌≤◌, ◌+◌, ◌*◌, ◌^◌, List, [], Some, true, false, length, slice_get, IfNone};
+ghost use Rattle.std.specs.Prelude.{◌≡◌, ◌<◌, ◌≤◌, ◌+◌, ◌*◌, ◌^◌, List, [], Some, true, false, length, slice_get, IfNone, IfSome};
+ghost use Rattle.pre_mpacket.specs.Spelling.{HasCounts};
 ghost use Rattle.pre_send.specs.Senders.{is_free, is_interrupted};
 ghost use Rattle.pre_links.specs.Standing.{IsUpTo};
 ghost use Rattle.pre_bridge.specs.Inside.{Entry};
@@ -91,6 +92,7 @@ fn begin_on(
     requires settled { IsUpTo lane.old.link now.0 }
     requires keeps { (store : Store) × LaneKeeps (scenario_of plan.now) store arc.0 lane.old }
     ensures starts { Starts (scenario_of plan.now) now.0 arc.0 partner.now 1 7 lane.old lane.new result }
+    ensures kind { IfSome result (λ b. HasCounts b.kind) }
     ensures keeps { (store : Store) → KeepsOn (scenario_of plan.now) arc.0 store store lane.old lane.new [] }
     ensures settled { IsUpTo lane.new.link now.0 }
 {
@@ -121,6 +123,7 @@ fn begin_for_link(
     requires free { is_free lane.old.outgoing.sender now.0 ≡ true }
     requires settled { IsUpTo lane.old.link now.0 }
     ensures starts { Starts (scenario_of plan.now) now.0 arc.0 partner.now 2 5 lane.old lane.new result }
+    ensures kind { IfSome result (λ b. HasCounts b.kind) }
     ensures none { IfNone result (lane.new ≡ lane.old) }
     ensures keeps { (store : Store) → KeepsOn (scenario_of plan.now) arc.0 store store lane.old lane.new [] }
     ensures settled { IsUpTo lane.new.link now.0 }
@@ -165,6 +168,7 @@ fn begin_preemptable(
     requires settled { IsUpTo lane.old.link now.0 }
     requires keeps { (store : Store) × LaneKeeps (scenario_of plan.now) store arc.0 lane.old }
     ensures starts { Starts (scenario_of plan.now) now.0 arc.0 partner.now 6 7 lane.old lane.new result }
+    ensures kind { IfSome result (λ b. HasCounts b.kind) }
     ensures keeps { (store : Store) → KeepsOn (scenario_of plan.now) arc.0 store store lane.old lane.new [] }
     ensures settled { IsUpTo lane.new.link now.0 }
 {
