@@ -19,17 +19,17 @@ use Rattle.pre_incoming.proofs.Goings.{elsewhere}
 use Rattle.pre_links.specs.declared.partners.Partner.{Partner}
 use Rattle.pre_incoming.specs.Wires.{Receives}
 use Rattle.pre_links.specs.Listening.{Hears}
-use Rattle.pre_links.specs.Standing.{LinkStands}
+use Rattle.pre_links.specs.Standing.{IsUpTo, LinkStands}
 use Rattle.pre_outgoing.specs.declared.outgoing.Begun.{Begun}
 use Rattle.pre_outgoing.specs.Sends.{Sends}
 use Rattle.pre_sim.specs.declared.lanes.Lane.{Lane}
-use Rattle.pre_sim.specs.Keeps.{Store, Keeps, KeepsOn}
+use Rattle.pre_sim.specs.Keeps.{Store, Keeps, KeepsOn, AreSettled}
 use Rattle.pre_sim.specs.Stages.{untouched, entered, stage_at}
 use Rattle.pre_sim.specs.Stands.{AreRings, LaneStands}
 use Rattle.pre_sim.specs.Parts.{Before, After, LegalAt, LanePart, LaneFront, its_place}
 use Rattle.pre_sim.specs.Starting.{Starts, StartsAs, begin_event}
 use Rattle.pre_sim.proofs.BegunLanes.{setting_then}
-use Rattle.pre_sim.proofs.Lists.{set_here, set_twice}
+use Rattle.pre_sim.proofs.Lists.{set_here, set_twice, set_cases}
 use Rattle.pre_sim.proofs.ItemsThere.{first_due}
 use Rattle.pre_sim.proofs.StageTests.{is_entered, is_over}
 
@@ -52,6 +52,10 @@ settled_lane w h t a old new items rings incoming partner setting link stand sen
   link = λ negotiates. subst (LinkStands w h a (t + 1)) (sym link) (stand.link negotiates);
   inside = stand.inside;
 }
+
+-- links stay settled with another lane whose link is
+pub settled_with : (t : ℕ) (lanes : List Lane) (i : ℕ) (new : Lane) → AreSettled t lanes → IsUpTo new.link t → AreSettled t (set lanes i new)
+settled_with t lanes i new all one = set_cases (λ j x. IsUpTo x.link t) lanes i new all one
 
 -- what a sender tells of its counts is what a begin event asks
 pub kind_counts : (k : Kind) → HasCounts k → IsKind k
