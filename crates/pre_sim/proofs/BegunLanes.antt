@@ -1,26 +1,20 @@
 -- The lane of an arc on which an mPacket began.
-use Rattle.std.proofs.Common.{ℕ, suc, ◌≡◌, ◌≢◌, ◌==◌, ◌&&◌, ◌+◌, ◌-◌, ◌*◌, ◌<◌, ◌≤◌, Bool, true, false, List, [], ◌∷◌, ◌++◌, length, drop, refl, sym, ◌∙◌, ap, inl, arith, subst, Option, Some, None, filter_map}
-use Rattle.std.specs.Prelude.{slice_get, if◌then◌else◌, option_map, option_and_then}
+use Rattle.std.proofs.Common.{ℕ, suc, ◌≡◌, ◌≢◌, ◌==◌, ◌&&◌, ◌+◌, ◌<◌, Bool, true, false, List, [], ◌∷◌, ◌++◌, length, drop, refl, sym, ◌∙◌, ap, inl, arith, subst, Some, None, filter_map}
+use Rattle.std.specs.Prelude.{if◌then◌else◌, option_map, option_and_then}
 use Rattle.std.specs.List.{cons_option, AllByRecursion as Every}
 use Rattle.std.proofs.lemmas.List.{append-nil}
 use Rattle.std.proofs.lemmas.List.Elements.{filter_map-append}
 use Rattle.pre_topo.specs.declared.arcs.Mode.TheVariants as mode
-use Rattle.pre_topo.specs.Arcs.{reverse_of}
-use Rattle.pre_mpacket.specs.declared.packets.Kind.{Kind}
-use Rattle.pre_mpacket.specs.declared.packets.Kind.TheVariants as kind
 use Rattle.pre_mpacket.specs.Arrivals.{is_continue}
-use Rattle.pre_mpacket.specs.Pieces.{least_fragment}
-use Rattle.pre_history.specs.declared.events.What.{What}
-use Rattle.pre_history.specs.declared.events.What.TheVariants as what
 use Rattle.pre_history.specs.Scenario.{Scenario, arc, latency}
 use Rattle.pre_history.specs.Moments.{Phase}
-use Rattle.pre_history.specs.Placed.{AllWithin, number, moment_of}
+use Rattle.pre_history.specs.Placed.{AllWithin, moment_of}
 use Rattle.pre_history.specs.History.{PlainEvent, Begin, Arrive, History}
-use Rattle.pre_history.specs.Selected.{arrive_on, ended_on, frame_in, is_frame_result, what_is}
-use Rattle.pre_history.specs.Queries.{Begins, Ends, Arrivals, Rest, Interrupted, SettingOf}
+use Rattle.pre_history.specs.Selected.{arrive_on, frame_in, is_frame_result, what_is}
+use Rattle.pre_history.specs.Queries.{Begins, Arrivals, SettingOf}
 use Rattle.pre_history.specs.LinkState.{SettingBefore}
 use Rattle.pre_history.specs.Comings.{next_arc}
-use Rattle.pre_history.specs.Starts.{Choice, Item, There, StartRule, place, rest_begins}
+use Rattle.pre_history.specs.Starts.{Choice, Item, There, StartRule}
 use Rattle.pre_history.specs.Rules.{HappensIn}
 use Rattle.pre_history.specs.Ordered.{IsOrdered}
 use Rattle.pre_history.specs.Legal.{LegalUpTo}
@@ -52,14 +46,16 @@ use Rattle.pre_sim.proofs.NumberTests.{not_eq}
 
 onward_same : (w : Scenario) (a : ℕ) (bs cs : List Begin) (x : Arrive) → x.ord < length bs → onward w a (bs ++ cs) x ≡ onward w a bs x
 onward_same w a bs cs x lt =
-    ap (λ o. if is_frame_result x.result then option_and_then (λ f. option_map (λ b. record { due = x.tick + latency w a; arc = b; frame = f }) (next_arc w a f)) (option_and_then (λ b. frame_in b.what) o) else None)
+    ap (λ o. if is_frame_result x.result then option_and_then (λ f. option_map (λ b. record { due = x.tick + latency w a; arc = b; frame = f }) (next_arc w a f))
+    (option_and_then (λ b. frame_in b.what) o) else None)
     (get_front bs cs x.ord lt)
 
 all_onward : (w : Scenario) (a : ℕ) (bs cs : List Begin) (xs : List Arrive) → Every (λ (x : Arrive). x.ord < length bs) xs → filter_map (onward w a (bs ++ cs)) xs ≡ filter_map (onward w a bs) xs
 all_onward w a bs cs [] known = refl
 all_onward w a bs cs (x ∷ xs) (here, more) = λ i. cons_option (onward_same w a bs cs x here i) (all_onward w a bs cs xs more i)
 
-begun_inside : (w : Scenario) (a t : ℕ) (bs cs : List Begin) (xs : List Arrive) (items : List Entry) → Every (λ (x : Arrive). x.ord < length bs) xs → AreInside w a bs xs t items → AreInside w a (bs ++ cs) xs t items
+begun_inside : (w : Scenario) (a t : ℕ) (bs cs : List Begin) (xs : List Arrive) (items : List Entry) → Every (λ (x : Arrive). x.ord < length bs) xs → AreInside w a bs xs t items
+    → AreInside w a (bs ++ cs) xs t items
 begun_inside w a t bs cs xs items known is = record {
   gone = is.gone;
   few = is.few;
@@ -113,11 +109,13 @@ module _ (w : Scenario) (t a : ℕ) (a_lt : a < length w.net.arcs) (h : History)
       outgoing = begun.sends;
       incoming = subst (Receives w after a) (sym incoming)
           (others_stay w (moment_of w t (Phase.starts a)) (suc (moment_of w t (Phase.starts a))) h (PlainEvent.begin next ∷ []) legal.0 at_its_place a a_lt old.incoming refl refl stand.incoming);
-      partner = subst (Hears w after a) (sym partner) (still_hears w t (Phase.starts a) h (PlainEvent.begin next ∷ []) a a_lt (a_lt, refl) legal.0 happens old.partner (omega (arith, a_lt)) stand.partner);
+      partner = subst (Hears w after a) (sym partner) (still_hears w t (Phase.starts a) h (PlainEvent.begin next ∷ []) a a_lt (a_lt, refl) legal.0 happens old.partner
+          (omega (arith, a_lt)) stand.partner);
       setting = setting ∙ (stand.setting ∙ setting_then w after a t);
       link = link;
       inside = subst (λ xs. AreInside w a (Begins after a) xs (t + 1) items) (sym arrivals)
-          (subst (λ bs. AreInside w a bs (Arrivals h a) (t + 1) items) (sym (one_more_begins h a next refl)) (begun_inside w a (t + 1) (Begins h a) (next ∷ []) (Arrivals h a) items known stand.inside));
+          (subst (λ bs. AreInside w a bs (Arrivals h a) (t + 1) items) (sym (one_more_begins h a next refl))
+          (begun_inside w a (t + 1) (Begins h a) (next ∷ []) (Arrivals h a) items known stand.inside));
     }
 
     -- this is what begins, and the lane stands for it
@@ -150,11 +148,13 @@ rest_continues w h a t c (r, interrupted, is) = ap (λ (x : Choice). is_continue
 
 module _ (w : Scenario) (fit : AllFit w.net w.streams w.script) (t a : ℕ) (a_lt : a < length w.net.arcs) (h : History) (items : List Entry) (old new : Lane) (c : Choice) (b : Begun)
     (legal : LegalAt w t (its_place w (Phase.starts a)) h) (stand : LaneStands w h a (entered t) old items) (rule : StartRule w h a t c) (begun : HasBegun w h t a c b new.outgoing)
-    (rings : new.rings ≡ old.rings) (incoming : new.incoming ≡ old.incoming) (partner : new.partner ≡ old.partner) (setting : new.setting ≡ old.setting) (link : new.link ≡ old.link) (there : There w h a t Item.rest c) where
+    (rings : new.rings ≡ old.rings) (incoming : new.incoming ≡ old.incoming) (partner : new.partner ≡ old.partner) (setting : new.setting ≡ old.setting) (link : new.link ≡ old.link)
+    (there : There w h a t Item.rest c) where
   -- the rest of the interrupted frame begins
   pub rest_started : (heard : Partner) (from to : ℕ) → StartsAs w t a heard from to old new (Some b) h items
   rest_started heard from to =
       started w t a a_lt h items old new c b legal stand rule begun incoming partner setting
-      (subst (AreRings w (h ++ PlainEvent.begin (next_begin h t a c) ∷ []) a) (sym rings) (rings_stay h a (next_begin h t a c) refl w old.rings (rest_later w fit h t a a_lt legal.0 c there) stand.rings))
+      (subst (AreRings w (h ++ PlainEvent.begin (next_begin h t a c) ∷ []) a) (sym rings)
+      (rings_stay h a (next_begin h t a c) refl w old.rings (rest_later w fit h t a a_lt legal.0 c there) stand.rings))
       (λ negotiates. subst (LinkStands w (h ++ begin_of h a t c ∷ []) a (t + 1)) (sym link) (other_begin w h a t c a_lt legal.0 old.link (stand.link negotiates) (rest_other w h a t c there)))
       heard from to

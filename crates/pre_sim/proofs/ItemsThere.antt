@@ -6,15 +6,14 @@ use Rattle.pre_topo.specs.declared.arcs.Mode.{Mode}
 use Rattle.pre_topo.specs.declared.arcs.Mode.TheVariants as mode
 use Rattle.pre_topo.specs.declared.arcs.Policy.{Policy}
 use Rattle.pre_topo.specs.declared.arcs.Policy.TheVariants as policy
-use Rattle.pre_mpacket.specs.declared.packets.Kind.{Kind}
 use Rattle.pre_mpacket.specs.declared.packets.Kind.TheVariants as kind
 use Rattle.pre_history.specs.Scenario.{Scenario, arc}
 use Rattle.pre_history.specs.History.{PlainEvent, History}
 use Rattle.pre_history.specs.Moments.{Phase}
 use Rattle.pre_history.specs.Queries.{Begins, Occupied}
-use Rattle.pre_history.specs.LinkState.{Active, ActiveIn, RespondOwed, VerifyWanted, LldpWanted}
+use Rattle.pre_history.specs.LinkState.{Active, ActiveIn}
 use Rattle.pre_history.specs.Rules.{HappensIn}
-use Rattle.pre_history.specs.Starts.{Item, Choice, place, There, StartRule, IsFront, PreemptableAs, whole_frame, without_octets, lldp_begins, starts_before}
+use Rattle.pre_history.specs.Starts.{Item, Choice, place, There, StartRule, IsFront, whole_frame, starts_before}
 use Rattle.pre_outgoing.specs.declared.outgoing.Begun.{Begun}
 use Rattle.pre_sim.specs.Starting.{NoneBelow, choice_of, begin_event}
 

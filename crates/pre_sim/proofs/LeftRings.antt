@@ -1,5 +1,5 @@
 -- The rings of an arc when an mPacket began: what still waits is what was left.
-use Rattle.std.proofs.Common.{ℕ, ◌≡◌, ◌≢◌, ◌==◌, ◌&&◌, ◌||◌, ◌≤◌, not, Bool, true, false, List, [], ◌∷◌, ◌++◌, length, refl, sym, ◌∙◌, ap, inl, inr, arith, subst, Some, None, map, filter}
+use Rattle.std.proofs.Common.{ℕ, ◌≡◌, ◌≢◌, ◌==◌, ◌&&◌, ◌||◌, ◌≤◌, not, Bool, true, false, List, [], ◌∷◌, ◌++◌, length, refl, sym, ◌∙◌, ap, inl, inr, arith, subst, map, filter}
 use Rattle.std.specs.Prelude.{if◌then◌else◌}
 use Rattle.std.specs.List.{list_any, AllByRecursion as Every}
 use Rattle.std.proofs.Math.Path.{fun_ext}
@@ -11,7 +11,6 @@ use Rattle.std.proofs.lemmas.Bool.{cases_eq}
 use Rattle.pre_base.specs.declared.numbers.FrameNo.{FrameNo}
 use Rattle.pre_rings.specs.declared.slots.FrameRef.{FrameRef}
 use Rattle.pre_rings.specs.Ports.{Port, IsPort, frames_at, with_frames}
-use Rattle.pre_history.specs.declared.events.What.{What}
 use Rattle.pre_history.specs.declared.events.What.TheVariants as what
 use Rattle.pre_history.specs.Scenario.{Scenario, row, capacity}
 use Rattle.pre_history.specs.History.{PlainEvent, History, Begin}
@@ -22,7 +21,7 @@ use Rattle.pre_sim.specs.Keeps.{Store, Waits, LaneKeeps}
 use Rattle.pre_sim.specs.Choices.{LeavesFirst}
 use Rattle.pre_sim.specs.Stands.{AreApart, AreRings, ring_numbers, has_begun, StillWaiting}
 use Rattle.pre_sim.proofs.Lists.{length_filter, every_filter}
-use Rattle.pre_sim.proofs.NumberTests.{is_eq, not_eq, and_or}
+use Rattle.pre_sim.proofs.NumberTests.{is_eq, not_eq}
 
 -- ---- the numbers but one
 
@@ -51,14 +50,16 @@ abbrev pub numbers_of : List FrameRef → List ℕ
 numbers_of frames = map (λ (g : FrameRef). g.frame.0) frames
 
 -- a frame of one priority is none of another
-not_among : (w : Scenario) (store : Store) (a p q : ℕ) (f : FrameRef) → Waits w store a p f → q ≢ p → (frames : List FrameRef) → Every (Waits w store a q) frames → Every (λ n. f.frame.0 ≢ n) (numbers_of frames)
+not_among : (w : Scenario) (store : Store) (a p q : ℕ) (f : FrameRef) → Waits w store a p f → q ≢ p → (frames : List FrameRef) → Every (Waits w store a q) frames
+    → Every (λ n. f.frame.0 ≢ n) (numbers_of frames)
 not_among w store a p q f is other [] all = tt
 not_among w store a p q f is other (g ∷ gs) (here, more) =
     (λ same. other (sym here.ring ∙ (here.frame.prio ∙ (ap (λ n. (row w n).prio) (sym same) ∙ (sym is.frame.prio ∙ is.ring)))), not_among w store a p q f is other gs more)
 
 -- all that waited but the frame still waits
 left_numbers : (w : Scenario) (store : Store) (a : ℕ) (rings : Port) → IsPort rings → ((p : ℕ) → Every (Waits w store a p) (frames_at rings p)) → ((p : ℕ) → AreApart (ring_numbers rings p))
-    → (prio : ℕ) (f : FrameRef) (behind : List FrameRef) → prio ≤ 7 → frames_at rings prio ≡ f ∷ behind → (q : ℕ) → ring_numbers (with_frames rings prio behind) q ≡ but f.frame.0 (ring_numbers rings q)
+    → (prio : ℕ) (f : FrameRef) (behind : List FrameRef) → prio ≤ 7 → frames_at rings prio ≡ f ∷ behind → (q : ℕ)
+    → ring_numbers (with_frames rings prio behind) q ≡ but f.frame.0 (ring_numbers rings q)
 left_numbers w store a rings eight waiting apart prio f behind most front q = elim (cases_eq q prio) [
   | inl same ↦
       let before : ring_numbers rings q ≡ f.frame.0 ∷ numbers_of behind = ap (ring_numbers rings) same ∙ ap numbers_of front in
@@ -72,14 +73,17 @@ left_numbers w store a rings eight waiting apart prio f behind most front q = el
 
 -- ---- what still waits
 
-thinner : (k : ℕ) (begun : ℕ → Bool) (es : List RingEntry)
-    → map (λ (e : RingEntry). e.frame) (filter (λ (e : RingEntry). e.entered && not (begun e.frame || (k == e.frame))) es) ≡ filter (λ n. not (k == n)) (map (λ (e : RingEntry). e.frame) (filter (λ (e : RingEntry). e.entered && not (begun e.frame)) es))
+-- the numbers of the frames that entered and haven't begun
+abbrev waits_by : (ℕ → Bool) → List RingEntry → List ℕ
+waits_by begun es = map (λ (e : RingEntry). e.frame) (filter (λ (e : RingEntry). e.entered && not (begun e.frame)) es)
+
+-- where one more has begun, it is left out
+thinner : (k : ℕ) (begun : ℕ → Bool) (es : List RingEntry) → waits_by (λ f. begun f || (k == f)) es ≡ but k (waits_by begun es)
 thinner k begun [] = refl
 thinner k begun (e ∷ es) = go e.entered (begun e.frame) (k == e.frame) refl refl refl (thinner k begun es)
   where
-    go : (x y z : Bool) → e.entered ≡ x → begun e.frame ≡ y → (k == e.frame) ≡ z
-        → map (λ (e : RingEntry). e.frame) (filter (λ (e : RingEntry). e.entered && not (begun e.frame || (k == e.frame))) es) ≡ filter (λ n. not (k == n)) (map (λ (e : RingEntry). e.frame) (filter (λ (e : RingEntry). e.entered && not (begun e.frame)) es))
-        → map (λ (e : RingEntry). e.frame) (filter (λ (e : RingEntry). e.entered && not (begun e.frame || (k == e.frame))) (e ∷ es)) ≡ filter (λ n. not (k == n)) (map (λ (e : RingEntry). e.frame) (filter (λ (e : RingEntry). e.entered && not (begun e.frame)) (e ∷ es)))
+    go : (x y z : Bool) → e.entered ≡ x → begun e.frame ≡ y → (k == e.frame) ≡ z → waits_by (λ f. begun f || (k == f)) es ≡ but k (waits_by begun es)
+        → waits_by (λ f. begun f || (k == f)) (e ∷ es) ≡ but k (waits_by begun (e ∷ es))
     go true true z p q r rest = rw (p, q) rest
     go true false true p q r rest = rw (p, q, r) rest
     go true false false p q r rest = rw (p, q, r) (ap (λ xs. e.frame ∷ xs) rest)
@@ -106,17 +110,14 @@ module _ (h : History) (a : ℕ) (b : Begin) (on : b.arc ≡ a) where
       or_no false = refl
 
   -- by whether each frame has begun then
-  waits_by : (begun : ℕ → Bool) → ((f : ℕ) → has_begun (h ++ PlainEvent.begin b ∷ []) a f ≡ begun f) → (p : ℕ)
-      → StillWaiting (h ++ PlainEvent.begin b ∷ []) a p ≡ map (λ (e : RingEntry). e.frame) (filter (λ (e : RingEntry). e.entered && not (begun e.frame)) (Entries h a p))
+  waits_then : (begun : ℕ → Bool) → ((f : ℕ) → has_begun (h ++ PlainEvent.begin b ∷ []) a f ≡ begun f) → (p : ℕ) → StillWaiting (h ++ PlainEvent.begin b ∷ []) a p ≡ waits_by begun (Entries h a p)
   unfolding StillWaiting
-  waits_by begun are p =
-      ap (λ (x : ℕ → Bool). map (λ (e : RingEntry). e.frame) (filter (λ (e : RingEntry). e.entered && not (x e.frame)) (Entries (h ++ PlainEvent.begin b ∷ []) a p))) (fun_ext are)
-      ∙ ap (λ (xs : List RingEntry). map (λ (e : RingEntry). e.frame) (filter (λ (e : RingEntry). e.entered && not (begun e.frame)) xs)) (entries_same p)
+  waits_then begun are p = ap (λ (x : ℕ → Bool). waits_by x (Entries (h ++ PlainEvent.begin b ∷ []) a p)) (fun_ext are) ∙ ap (waits_by begun) (entries_same p)
 
   -- where no first octet of a frame begins, all goes on waiting
   still_all : ((f : ℕ) → is_first f ≡ false) → (p : ℕ) → StillWaiting (h ++ PlainEvent.begin b ∷ []) a p ≡ StillWaiting h a p
   unfolding StillWaiting
-  still_all none p = waits_by (has_begun h a) (λ f. begun_with f ∙ (ap (λ y. has_begun h a f || y) (none f) ∙ or_no (has_begun h a f))) p
+  still_all none p = waits_then (has_begun h a) (λ f. begun_with f ∙ (ap (λ y. has_begun h a f || y) (none f) ∙ or_no (has_begun h a f))) p
     where
       or_no : (x : Bool) → (x || false) ≡ x
       or_no true = refl
@@ -125,13 +126,14 @@ module _ (h : History) (a : ℕ) (b : Begin) (on : b.arc ≡ a) where
   -- and where that of a frame does, all but that frame
   still_but : (k : FrameNo) → b.what ≡ what.Frame k → b.from ≡ 0 → (p : ℕ) → StillWaiting (h ++ PlainEvent.begin b ∷ []) a p ≡ but k.0 (StillWaiting h a p)
   unfolding StillWaiting
-  still_but k is from p =
-      waits_by (λ f. has_begun h a f || (k.0 == f)) (λ f. begun_with f ∙ ap (λ y. has_begun h a f || y) (ap (λ y. what_is y f && (b.from == 0)) is ∙ (ap (λ n. (k.0 == f) && (n == 0)) from ∙ and_yes (k.0 == f)))) p
-      ∙ thinner k.0 (has_begun h a) (Entries h a p)
+  still_but k is from p = waits_then (λ f. has_begun h a f || (k.0 == f)) (λ f. begun_with f ∙ ap (λ y. has_begun h a f || y) (first_is f)) p ∙ thinner k.0 (has_begun h a) (Entries h a p)
     where
       and_yes : (x : Bool) → (x && true) ≡ x
       and_yes true = refl
       and_yes false = refl
+
+      first_is : (f : ℕ) → is_first f ≡ (k.0 == f)
+      first_is f = ap (λ y. what_is y f && (b.from == 0)) is ∙ (ap (λ n. (k.0 == f) && (n == 0)) from ∙ and_yes (k.0 == f))
 
   module _ (w : Scenario) where
     -- the rings stay where no first octet of a frame begins
@@ -148,7 +150,8 @@ module _ (h : History) (a : ℕ) (b : Begin) (on : b.arc ≡ a) where
     rings_left store lane left least greatest f few keeps leaves is from are =
         let apart : (p : ℕ) → AreApart (ring_numbers lane.rings p) = λ p. subst AreApart (sym (are.numbers p)) (are.apart p) in
         let left_are : (p : ℕ) → ring_numbers left p ≡ but f.frame.0 (ring_numbers lane.rings p) =
-        λ p. ap (λ (r : Port). ring_numbers r p) leaves.left ∙ left_numbers w store a lane.rings keeps.eight keeps.waiting apart leaves.prio f leaves.behind (omega (arith, leaves.most, few)) leaves.front p in
+        λ p. ap (λ (r : Port). ring_numbers r p) leaves.left ∙ left_numbers w store a lane.rings keeps.eight keeps.waiting apart leaves.prio f leaves.behind
+        (omega (arith, leaves.most, few)) leaves.front p in
         let still : (p : ℕ) → StillWaiting (h ++ PlainEvent.begin b ∷ []) a p ≡ but f.frame.0 (StillWaiting h a p) = still_but f.frame is from in
         record {
           numbers = λ p. left_are p ∙ (ap (but f.frame.0) (are.numbers p) ∙ sym (still p));

@@ -1,5 +1,5 @@
 -- A frame that waited in a ring begins.
-use Rattle.std.proofs.Common.{ℕ, ◌≡◌, ◌≢◌, ◌+◌, ◌<◌, ◌≤◌, List, [], ◌∷◌, ◌++◌, length, refl, sym, ◌∙◌, ap, arith, subst, Option, Some, None}
+use Rattle.std.proofs.Common.{ℕ, ◌≡◌, ◌≢◌, ◌+◌, ◌<◌, ◌≤◌, List, [], ◌∷◌, ◌++◌, length, refl, sym, ◌∙◌, arith, subst, Option, Some, None}
 use Rattle.std.specs.Prelude.{slice_get}
 use Rattle.std.specs.List.{AllByRecursion as Every}
 use Rattle.pre_base.specs.declared.limits.TheConstants.{LEAST_FRAME, GREATEST_FRAME}
@@ -8,7 +8,6 @@ use Rattle.pre_mpacket.specs.declared.packets.Kind.{Kind}
 use Rattle.pre_mpacket.specs.declared.packets.Kind.TheVariants as kind
 use Rattle.pre_rings.specs.declared.slots.FrameRef.{FrameRef}
 use Rattle.pre_rings.specs.Ports.{Port}
-use Rattle.pre_history.specs.declared.events.What.TheVariants as what
 use Rattle.pre_history.specs.Scenario.{Scenario, arc, no_arc, FrameOf}
 use Rattle.pre_history.specs.History.{History}
 use Rattle.pre_history.specs.Moments.{Phase}
@@ -18,7 +17,6 @@ use Rattle.pre_history.specs.Legal.{LegalUpTo}
 use Rattle.pre_history.proofs.Undamaged.{length-FrameOf}
 use Rattle.pre_laws.proofs.Fitting.{is_routed}
 use Rattle.pre_bridge.specs.Inside.{Entry}
-use Rattle.pre_links.specs.declared.links.Link.{Link}
 use Rattle.pre_links.specs.declared.partners.Partner.{Partner}
 use Rattle.pre_links.specs.Standing.{LinkStands, begin_of}
 use Rattle.pre_links.proofs.Begun.{other_begin}
@@ -49,7 +47,8 @@ pub same_lane : (old : Lane) (rings : Port) → rings ≡ old.rings
 same_lane old rings is i = record { rings = is i; outgoing = old.outgoing; incoming = old.incoming; partner = old.partner; setting = old.setting; link = old.link }
 
 -- where the express rings are empty, no express frame is there
-pub none_express : (w : Scenario) (h : History) (t a : ℕ) → a < length w.net.arcs → LegalUpTo w (moment_of w t (Phase.starts a)) h → (rings : Port) → AreRings w h a rings → (link : Arc) → slice_get w.net.arcs a ≡ Some link
+pub none_express : (w : Scenario) (h : History) (t a : ℕ) → a < length w.net.arcs → LegalUpTo w (moment_of w t (Phase.starts a)) h → (rings : Port) → AreRings w h a rings → (link : Arc)
+    → slice_get w.net.arcs a ≡ Some link
     → NoneWaits link.express_from 7 rings → (c : Choice) → ¬ There w h a t Item.express c
 none_express w h t a a_lt legal rings are link found none c (f, front, is) =
     no_front w h t a a_lt legal rings are (arc w a).express_from 7 8 f refl (subst (λ (x : Arc). NoneWaits x.express_from 7 rings) (sym (read_at w.net.arcs a link no_arc found)) none) front
@@ -68,7 +67,8 @@ IsFirstKind (kind.Continue c n) = ⊥
 IsFirstKind kind.Verify = ⊥
 IsFirstKind kind.Respond = ⊥
 
-module _ (w : Scenario) (fit : AllFit w.net w.streams w.script) (t a : ℕ) (a_lt : a < length w.net.arcs) (store : Store) (old new : Lane) (keeps : LaneKeeps w store a old) (least greatest : ℕ) (few : greatest ≤ 7)
+module _ (w : Scenario) (fit : AllFit w.net w.streams w.script) (t a : ℕ) (a_lt : a < length w.net.arcs) (store : Store) (old new : Lane) (keeps : LaneKeeps w store a old) (least greatest : ℕ)
+    (few : greatest ≤ 7)
     (f : FrameRef) (leaves : LeavesFirst least greatest old.rings new.rings f) where
   waited : Waits w store a leaves.prio f
   waited = (subst (Every (Waits w store a leaves.prio)) leaves.front (keeps.waiting leaves.prio)).0
@@ -84,7 +84,8 @@ module _ (w : Scenario) (fit : AllFit w.net w.streams w.script) (t a : ℕ) (a_l
   has_its_size = waited.frame.size ∙ sym (length-FrameOf w f.frame.0 (omega (arith, waited.frame.long, waited.frame.size)))
 
   module _ (h : History) (items : List Entry) (k : Kind) (first : IsFirstKind k) (b : Begun)
-      (legal : LegalAt w t (its_place w (Phase.starts a)) h) (stand : LaneStands w h a (entered t) old items) (rule : StartRule w h a t (whole_frame f.frame.0 k)) (begun : HasBegun w h t a (whole_frame f.frame.0 k) b new.outgoing)
+      (legal : LegalAt w t (its_place w (Phase.starts a)) h) (stand : LaneStands w h a (entered t) old items) (rule : StartRule w h a t (whole_frame f.frame.0 k))
+      (begun : HasBegun w h t a (whole_frame f.frame.0 k) b new.outgoing)
       (incoming : new.incoming ≡ old.incoming) (partner : new.partner ≡ old.partner) (setting : new.setting ≡ old.setting) (link : new.link ≡ old.link) where
     no_verify : (k : Kind) → IsFirstKind k → k ≢ kind.Verify
     no_verify kind.Express first is = cc is
@@ -106,5 +107,6 @@ module _ (w : Scenario) (fit : AllFit w.net w.streams w.script) (t a : ℕ) (a_l
         started w t a a_lt h items old new (whole_frame f.frame.0 k) b legal stand rule begun incoming partner setting
         (rings_left h a (next_begin h t a (whole_frame f.frame.0 k)) refl w store old new.rings least greatest f few keeps leaves refl refl stand.rings)
         (λ negotiates. subst (LinkStands w (h ++ begin_of h a t (whole_frame f.frame.0 k) ∷ []) a (t + 1)) (sym link)
-            (other_begin w h a t (whole_frame f.frame.0 k) a_lt legal.0 old.link (stand.link negotiates) (record { no_verify = no_verify k first; no_respond = no_respond k first; no_lldp = λ is. cc is })))
+        (other_begin w h a t (whole_frame f.frame.0 k) a_lt legal.0 old.link (stand.link negotiates)
+        (record { no_verify = no_verify k first; no_respond = no_respond k first; no_lldp = λ is. cc is })))
         heard from to

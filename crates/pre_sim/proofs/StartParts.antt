@@ -1,16 +1,15 @@
 -- The start on an arc, as a part of its tick.
-use Rattle.std.proofs.Common.{ℕ, suc, ◌≡◌, ◌+◌, ◌*◌, ◌<◌, ◌≤◌, true, false, List, [], ◌∷◌, ◌++◌, length, refl, sym, ◌∙◌, ap, arith, subst, Option, Some, None}
-use Rattle.std.specs.Prelude.{slice_get, set}
+use Rattle.std.proofs.Common.{ℕ, suc, ◌≡◌, ◌+◌, ◌*◌, ◌<◌, true, List, [], ◌∷◌, ◌++◌, length, refl, sym, ◌∙◌, arith, subst, Some}
+use Rattle.std.specs.Prelude.{set}
 use Rattle.std.proofs.lemmas.List.{append-nil}
-use Rattle.pre_topo.specs.Arcs.{reverse_of}
 use Rattle.pre_mpacket.specs.declared.packets.Kind.{Kind}
 use Rattle.pre_mpacket.specs.declared.packets.Kind.TheVariants as kind
 use Rattle.pre_mpacket.specs.Spelling.{HasCounts}
 use Rattle.pre_history.specs.Plain.{IsKind}
 use Rattle.pre_history.specs.Scenario.{Scenario}
-use Rattle.pre_history.specs.History.{PlainEvent, History}
+use Rattle.pre_history.specs.History.{History}
 use Rattle.pre_history.specs.Moments.{Phase}
-use Rattle.pre_history.specs.Placed.{number, moment_of}
+use Rattle.pre_history.specs.Placed.{number}
 use Rattle.pre_history.specs.Rules.{HappensIn}
 use Rattle.pre_history.specs.Legal.{LegalBefore}
 use Rattle.pre_history.proofs.Moments.{starts_place}
@@ -26,8 +25,8 @@ use Rattle.pre_sim.specs.declared.lanes.Lane.{Lane}
 use Rattle.pre_sim.specs.Keeps.{Store, Keeps, KeepsOn, AreSettled}
 use Rattle.pre_sim.specs.Stages.{untouched, entered, stage_at}
 use Rattle.pre_sim.specs.Stands.{AreRings, LaneStands}
-use Rattle.pre_sim.specs.Parts.{Before, After, LegalAt, LanePart, LaneFront, its_place}
-use Rattle.pre_sim.specs.Starting.{Starts, StartsAs, begin_event}
+use Rattle.pre_sim.specs.Parts.{Before, After, LegalAt, LanePart, LaneFront}
+use Rattle.pre_sim.specs.Starting.{StartsAs, begin_event}
 use Rattle.pre_sim.proofs.BegunLanes.{setting_then}
 use Rattle.pre_sim.proofs.Lists.{set_here, set_twice, set_cases}
 use Rattle.pre_sim.proofs.ItemsThere.{first_due}
@@ -41,7 +40,8 @@ keeps_both w a store old mid new first second lanes entries at keeps =
     subst (λ ls. Keeps w store ls (entries ++ []) []) (set_twice lanes a mid new) two
 
 -- once it is settled whether an express frame waits, the lane is at the next tick
-pub settled_lane : (w : Scenario) (h : History) (t a : ℕ) (old new : Lane) (items : List Entry) → new.rings ≡ old.rings → new.incoming ≡ old.incoming → new.partner ≡ old.partner → new.setting ≡ old.setting → new.link ≡ old.link
+pub settled_lane : (w : Scenario) (h : History) (t a : ℕ) (old new : Lane) (items : List Entry) → new.rings ≡ old.rings → new.incoming ≡ old.incoming → new.partner ≡ old.partner
+    → new.setting ≡ old.setting → new.link ≡ old.link
     → LaneStands w h a (entered t) old items → Sends w h a (t + 1) true new.outgoing → LaneStands w h a (untouched (t + 1)) new items
 settled_lane w h t a old new items rings incoming partner setting link stand sends = record {
   rings = subst (AreRings w h a) (sym rings) stand.rings;
@@ -108,7 +108,8 @@ module _ (w : Scenario) (t a : ℕ) (a_lt : a < length w.net.arcs) (heard : Part
     }
 
   -- an mPacket begins
-  module _ (b : Begun) (from to : ℕ) (starts : (h : History) (items : List Entry) → Before w t (Phase.starts a) a (Some heard) old h items → StartsAs w t a heard from to old new (Some b) h items) where
+  module _ (b : Begun) (from to : ℕ) (starts : (h : History) (items : List Entry) → Before w t (Phase.starts a) a (Some heard) old h items
+      → StartsAs w t a heard from to old new (Some b) h items) where
     done : (h : History) (items : List Entry) → Before w t (Phase.starts a) a (Some heard) old h items → After w t (Phase.starts a) a (Some heard) old new h (items ++ []) (begin_event t a b ∷ [])
     done h items before =
         let is = starts h items before in

@@ -39,7 +39,9 @@ pub(crate) fn start_on<W: Watcher>(
     requires settled { IsUpTo lane.old.link now.0 }
     requires keeps { (store : Store) × LaneKeeps (scenario_of plan.now) store arc.0 lane.old }
     ensures settled { IsUpTo lane.new.link now.0 }
-    ensures part { TellsPart plan.now.net.now result (W.took watcher.old) (W.took watcher.new) (W.torn watcher.new) (λ x es. (store : Store) → LanePart (scenario_of plan.now) now.0 (Phase.starts arc.0) arc.0 (Some partner.now) lane.old 0 store store lane.new [] es) (LaneFront (scenario_of plan.now) now.0 (Phase.starts arc.0) arc.0 (Some partner.now) lane.old) NoArrival }
+    ensures part { TellsPart plan.now.net.now result (W.took watcher.old) (W.took watcher.new) (W.torn watcher.new)
+        (λ x es. (store : Store) → LanePart (scenario_of plan.now) now.0 (Phase.starts arc.0) arc.0 (Some partner.now) lane.old 0 store store lane.new [] es)
+        (LaneFront (scenario_of plan.now) now.0 (Phase.starts arc.0) arc.0 (Some partner.now) lane.old) NoArrival }
     ensures cause { HasCause (W.faults watcher.old) (W.faults watcher.new) result }
     ensures same { W.same watcher.old watcher.new }
 {
@@ -208,7 +210,9 @@ pub(crate) fn starts<W: Watcher>(
     requires settled { AreSettled now.0 lanes.old }
     requires keeps { (store : Store) × (entries : List Entry) × Keeps (scenario_of plan.now) store lanes.old entries [] }
     ensures settled { AreSettled now.0 lanes.new }
-    ensures part { TellsPart plan.now.net.now result (W.took watcher.old) (W.took watcher.new) (W.torn watcher.new) (λ x es. (store : Store) → LanesPart (scenario_of plan.now) now.0 (2 + 3 * length plan.now.net.now.arcs) (length plan.now.net.now.arcs) 0 store store lanes.old lanes.new [] es) (LanesFront (scenario_of plan.now) now.0 (2 + 3 * length plan.now.net.now.arcs) lanes.old) NoArrival }
+    ensures part { TellsPart plan.now.net.now result (W.took watcher.old) (W.took watcher.new) (W.torn watcher.new)
+        (λ x es. (store : Store) → LanesPart (scenario_of plan.now) now.0 (2 + 3 * length plan.now.net.now.arcs) (length plan.now.net.now.arcs) 0 store store lanes.old lanes.new [] es)
+        (LanesFront (scenario_of plan.now) now.0 (2 + 3 * length plan.now.net.now.arcs) lanes.old) NoArrival }
     ensures cause { HasCause (W.faults watcher.old) (W.faults watcher.new) result }
     ensures same { W.same watcher.old watcher.new }
 {

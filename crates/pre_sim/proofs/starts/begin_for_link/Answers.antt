@@ -1,4 +1,4 @@
-use Rattle.std.proofs.Common.{◌≡◌, ◌≢◌, ◌+◌, ◌*◌, ◌<◌, ◌∙◌, ap, refl, sym, arith, rules, false, length, [], ◌∷◌, ◌++◌}
+use Rattle.std.proofs.Common.{◌≡◌, ◌≢◌, ◌∙◌, ap, refl, sym, arith, rules, false}
 use Rattle.pre_topo.specs.declared.arcs.Arc.{Arc}
 use Rattle.pre_topo.specs.declared.arcs.Mode.TheVariants as mode
 use Rattle.pre_mpacket.specs.declared.packets.Kind.TheVariants as kind
@@ -56,7 +56,8 @@ returns-then-wants_verify-clause-starts c = λ h items legal hears stand free no
     let t = c.args.now.0 in
     let a = c.args.arc.0 in
     let old = c.args.lane.now in
-    let new : Lane = record { rings = old.rings; outgoing = c.begin-then-wants_verify.new.self; incoming = old.incoming; partner = old.partner; setting = old.setting; link = c.verify_begun.new.self } in
+    let new : Lane =
+    record { rings = old.rings; outgoing = c.begin-then-wants_verify.new.self; incoming = old.incoming; partner = old.partner; setting = old.setting; link = c.verify_begun.new.self } in
     let its : arc w a ≡ c.args.link.now = read_at w.net.arcs a c.args.link.now no_arc c.requires.link in
     let on : c.args.link.now.mode ≡ mode.Negotiate = search rules in
     let negotiates : (arc w a).mode ≡ mode.Negotiate = ap (λ (x : Arc). x.mode) its ∙ on in
@@ -71,7 +72,8 @@ returns-then-wants_verify-clause-starts c = λ h items legal hears stand free no
 pub returns-then-wants_verify-clause-keeps : goal.returns-then-wants_verify-clause-keeps
 returns-then-wants_verify-clause-keeps c = λ store.
     let old = c.args.lane.now in
-    let new : Lane = record { rings = old.rings; outgoing = c.begin-then-wants_verify.new.self; incoming = old.incoming; partner = old.partner; setting = old.setting; link = c.verify_begun.new.self } in
+    let new : Lane =
+    record { rings = old.rings; outgoing = c.begin-then-wants_verify.new.self; incoming = old.incoming; partner = old.partner; setting = old.setting; link = c.verify_begun.new.self } in
     keep_lane (scenario_of c.args.plan.now) c.args.arc.0 store old new refl c.begin-then-wants_verify.ensures.frames
 
 pub returns-then-not-wants_lldp-clause-starts : goal.returns-then-not-wants_lldp-clause-starts

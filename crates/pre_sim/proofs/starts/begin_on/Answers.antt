@@ -1,4 +1,4 @@
-use Rattle.std.proofs.Common.{rules, ◌≡◌, ◌<◌, ◌≤◌, ◌+◌, ◌*◌, ◌∙◌, ap, refl, sym, subst, arith, true, false, length, Some, None, [], ◌∷◌, ◌++◌}
+use Rattle.std.proofs.Common.{◌≡◌, ◌∙◌, ap, refl, sym, subst, arith, true, false, []}
 use Rattle.std.proofs.lemmas.Bool.{false≢true}
 use Rattle.pre_topo.specs.declared.arcs.Arc.{Arc}
 use Rattle.pre_mpacket.specs.declared.packets.Kind.TheVariants as kind
@@ -11,7 +11,7 @@ use Rattle.pre_sim.specs.Stages.{entered}
 use Rattle.pre_sim.specs.Stands.{LaneStands}
 use Rattle.pre_sim.specs.Parts.{scenario_of}
 use Rattle.pre_sim.specs.Choices.{LeavesFirst}
-use Rattle.pre_sim.specs.Starting.{NoneBelow, StartsAs}
+use Rattle.pre_sim.specs.Starting.{NoneBelow}
 use Rattle.pre_sim.proofs.Keeping.{keep_lane, keep_started}
 use Rattle.pre_sim.proofs.Lists.{read_at}
 use Rattle.pre_sim.proofs.WaitingNow.{front_of}
@@ -35,7 +35,8 @@ returns-in-Some-clause-starts c = λ h items legal hears stand free none.
     let rule = first_begins w h a t free Item.express (whole_frame f.frame.0 kind.Express) (f.frame.0, front, refl) none in
     let sized = has_its_size w c.requires.fit t a c.requires.arc c.requires.keeps.0 old new c.requires.keeps.1 (arc w a).express_from 7 (omega arith) f leaves in
     let begun = c.begin.ensures.begins w h a t false (whole_frame f.frame.0 kind.Express) c.requires.arc legal.0 stand.outgoing rule (refl, refl, sized) in
-    frame_started w c.requires.fit t a c.requires.arc c.requires.keeps.0 old new c.requires.keeps.1 (arc w a).express_from 7 (omega arith) f leaves h items kind.Express tt c.begin.result legal stand rule begun refl refl refl refl
+    frame_started w c.requires.fit t a c.requires.arc c.requires.keeps.0 old new c.requires.keeps.1 (arc w a).express_from 7
+    (omega arith) f leaves h items kind.Express tt c.begin.result legal stand rule begun refl refl refl refl
     c.args.partner.now 1 7
 
 pub returns-in-Some-clause-keeps : goal.returns-in-Some-clause-keeps
@@ -53,12 +54,14 @@ returns-in-Some-begin_for_link-clause-starts c = λ h items legal hears stand fr
     let a = c.args.arc.0 in
     let old = c.args.lane.now in
     let same = same_lane old c.take_first.new.rings c.in_default.ensures.1 in
-    let below : NoneBelow w h a t 2 = none_more w h a t Item.express 1 refl none (none_express w h t a c.requires.arc legal.0 old.rings stand.rings c.args.link.now c.requires.link c.in_default.ensures.0) in
+    let below : NoneBelow w h a t 2 = none_more w h a t Item.express 1 refl none
+    (none_express w h t a c.requires.arc legal.0 old.rings stand.rings c.args.link.now c.requires.link c.in_default.ensures.0) in
     c.in-Some-begin_for_link.ensures.starts h items legal hears (subst (λ l. LaneStands w h a (entered t) l items) (sym same) stand) free below
 
 pub returns-in-Some-begin_for_link-clause-keeps : goal.returns-in-Some-begin_for_link-clause-keeps
 returns-in-Some-begin_for_link-clause-keeps c = λ store.
-    subst (λ l. KeepsOn (scenario_of c.args.plan.now) c.args.arc.0 store store l c.begin_for_link.new.lane []) (same_lane c.args.lane.now c.take_first.new.rings c.in_default.ensures.1) (c.in-Some-begin_for_link.ensures.keeps store)
+    subst (λ l. KeepsOn (scenario_of c.args.plan.now) c.args.arc.0 store store l c.begin_for_link.new.lane []) (same_lane c.args.lane.now c.take_first.new.rings c.in_default.ensures.1)
+    (c.in-Some-begin_for_link.ensures.keeps store)
 
 -- the rest of the interrupted frame
 pub returns-then-is_interrupted-clause-starts : goal.returns-then-is_interrupted-clause-starts
@@ -73,7 +76,8 @@ returns-then-is_interrupted-clause-starts c = λ h items legal hears stand free 
     let still : mid ≡ old = c.in_default-begin_for_link.ensures.none ∙ same in
     let stand' : LaneStands w h a (entered t) mid items = subst (λ l. LaneStands w h a (entered t) l items) (sym still) stand in
     let free' : is_free mid.outgoing.sender t ≡ true = ap (λ (l : Lane). is_free l.outgoing.sender t) still ∙ c.requires.free in
-    let first : NoneBelow w h a t 2 = none_more w h a t Item.express 1 refl none (none_express w h t a c.requires.arc legal.0 old.rings stand.rings c.args.link.now c.requires.link c.in_default.ensures.0) in
+    let first : NoneBelow w h a t 2 = none_more w h a t Item.express 1 refl none
+    (none_express w h t a c.requires.arc legal.0 old.rings stand.rings c.args.link.now c.requires.link c.in_default.ensures.0) in
     let below : NoneBelow w h a t 5 = (c.in_default-begin_for_link.ensures.starts h items legal hears (subst (λ l. LaneStands w h a (entered t) l items) (sym same) stand) free first).0 in
     let found = (c.is_interrupted.ensures.exact w h t a t false c.requires.arc legal.0 stand'.outgoing free').0 c.if-is_interrupted.true in
     let rule = first_begins w h a t free Item.rest found.0 found.1 below in
@@ -101,7 +105,8 @@ returns-clause-starts c = λ h items legal hears stand free none.
     let still : mid ≡ old = c.in_default-begin_for_link.ensures.none ∙ same in
     let stand' : LaneStands w h a (entered t) mid items = subst (λ l. LaneStands w h a (entered t) l items) (sym still) stand in
     let free' : is_free mid.outgoing.sender t ≡ true = ap (λ (l : Lane). is_free l.outgoing.sender t) still ∙ c.requires.free in
-    let first : NoneBelow w h a t 2 = none_more w h a t Item.express 1 refl none (none_express w h t a c.requires.arc legal.0 old.rings stand.rings c.args.link.now c.requires.link c.in_default.ensures.0) in
+    let first : NoneBelow w h a t 2 = none_more w h a t Item.express 1 refl none
+    (none_express w h t a c.requires.arc legal.0 old.rings stand.rings c.args.link.now c.requires.link c.in_default.ensures.0) in
     let below : NoneBelow w h a t 5 = (c.in_default-begin_for_link.ensures.starts h items legal hears (subst (λ l. LaneStands w h a (entered t) l items) (sym same) stand) free first).0 in
     let exact = c.is_interrupted.ensures.exact w h t a t false c.requires.arc legal.0 stand'.outgoing free' in
     let none' : NoneBelow w h a t 6 = none_more w h a t Item.rest 5 refl below (λ d there. false≢true (sym c.if-is_interrupted.false ∙ exact.1 (d, there))) in

@@ -1,4 +1,4 @@
-use Rattle.std.proofs.Common.{rules, ◌≡◌, ◌<◌, ◌≤◌, ◌+◌, ◌-◌, ◌*◌, ◌%◌, ◌∙◌, ap, refl, sym, subst, arith, true, false, length, Some, None, [], ◌∷◌, ◌++◌}
+use Rattle.std.proofs.Common.{rules, ◌≡◌, ◌≤◌, ◌+◌, ◌-◌, ◌%◌, ◌∙◌, ap, refl, sym, subst, arith, false, []}
 use Rattle.pre_topo.specs.declared.arcs.Arc.{Arc}
 use Rattle.pre_topo.specs.declared.arcs.Mode.TheVariants as mode
 use Rattle.pre_topo.specs.declared.arcs.Policy.TheVariants as policy
@@ -46,8 +46,11 @@ begin-requires-clause-may c =
     let w : Scenario = scenario_of c.args.plan.now in
     let from = express_from_within w c.args.arc.0 c.args.link.now c.requires.arc c.requires.link in
     let old = c.args.lane.now in
-    let new : Lane = record { rings = c.take_first.new.rings; outgoing = old.outgoing; incoming = old.incoming; partner = old.partner; setting = old.setting; link = old.link } in
-    (has_size w c.requires.fit c.args.now.0 c.args.arc.0 c.requires.arc c.requires.keeps.0 old new c.requires.keeps.1 0 (c.args.link.now.express_from - 1) (omega (arith, from.1)) c.in_ok-frame.frame c.in_ok-frame.ensures, c.requires.alone)
+    let new : Lane = record { rings = c.take_first.new.rings; outgoing = old.outgoing; incoming = old.incoming; partner = old.partner; setting = old.setting; link = old.link } in (
+      has_size w c.requires.fit c.args.now.0 c.args.arc.0 c.requires.arc c.requires.keeps.0 old new c.requires.keeps.1 0 (c.args.link.now.express_from - 1)
+          (omega (arith, from.1)) c.in_ok-frame.frame c.in_ok-frame.ensures,
+      c.requires.alone,
+    )
 
 pub returns-then-is_active-clause-starts : goal.returns-then-is_active-clause-starts
 returns-then-is_active-clause-starts c = λ h items legal hears stand free none.
@@ -67,7 +70,8 @@ returns-then-is_active-clause-starts c = λ h items legal hears stand free none.
     let rule = first_begins w h a t free Item.preemptable (whole_frame f.frame.0 k) (preemptable_first w h a t f.frame.0 front active) none in
     let sized = has_its_size w c.requires.fit t a c.requires.arc c.requires.keeps.0 old new c.requires.keeps.1 0 (c.args.link.now.express_from - 1) few f c.in_ok-frame.ensures in
     let begun = c.begin.ensures.begins w h a t false (whole_frame f.frame.0 k) c.requires.arc legal.0 stand.outgoing rule (refl, refl, sized) in
-    frame_started w c.requires.fit t a c.requires.arc c.requires.keeps.0 old new c.requires.keeps.1 0 (c.args.link.now.express_from - 1) few f c.in_ok-frame.ensures h items k tt c.begin.result legal stand rule begun refl refl refl refl
+    frame_started w c.requires.fit t a c.requires.arc c.requires.keeps.0 old new c.requires.keeps.1 0
+    (c.args.link.now.express_from - 1) few f c.in_ok-frame.ensures h items k tt c.begin.result legal stand rule begun refl refl refl refl
     c.args.partner.now 6 7
 
 pub returns-then-is_active-clause-keeps : goal.returns-then-is_active-clause-keeps
@@ -88,7 +92,8 @@ returns-then-eq-2-clause-starts c = λ h items legal hears stand free none.
     let on : c.args.link.now.mode ≡ mode.Negotiate = search rules in
     let quiet : c.args.link.now.policy ≡ policy.Quiet = search rules in
     let inactive = c.is_active.ensures w h a t its (λ on. stand.link (ap (λ (x : Arc). x.mode) its ∙ on)) in
-    (none_more w h a t Item.preemptable 6 refl none (none_on_quiet w h a t (subst (λ r. Decides r (Active w h a t)) c.if-is_active.false inactive) (ap (λ (x : Arc). x.mode) its ∙ on) (ap (λ (x : Arc). x.policy) its ∙ quiet)), refl)
+    let nothing = none_on_quiet w h a t (subst (λ r. Decides r (Active w h a t)) c.if-is_active.false inactive) (ap (λ (x : Arc). x.mode) its ∙ on) (ap (λ (x : Arc). x.policy) its ∙ quiet) in
+    (none_more w h a t Item.preemptable 6 refl none nothing, refl)
 
 pub returns-then-eq-2-clause-keeps : goal.returns-then-eq-2-clause-keeps
 returns-then-eq-2-clause-keeps c = λ store. keep_same (scenario_of c.args.plan.now) c.args.arc.0 store c.args.lane.now
@@ -125,7 +130,8 @@ begin-requires-2-clause-may c =
     let from = express_from_within w c.args.arc.0 c.args.link.now c.requires.arc c.requires.link in
     let old = c.args.lane.now in
     let new : Lane = record { rings = c.take_first-2.new.rings; outgoing = old.outgoing; incoming = old.incoming; partner = old.partner; setting = old.setting; link = old.link } in
-    has_size w c.requires.fit c.args.now.0 c.args.arc.0 c.requires.arc c.requires.keeps.0 old new c.requires.keeps.1 0 (c.args.link.now.express_from - 1) (omega (arith, from.1)) c.in_ok-frame-2.frame c.in_ok-frame-2.ensures
+    has_size w c.requires.fit c.args.now.0 c.args.arc.0 c.requires.arc c.requires.keeps.0 old new c.requires.keeps.1 0 (c.args.link.now.express_from - 1)
+    (omega (arith, from.1)) c.in_ok-frame-2.frame c.in_ok-frame-2.ensures
 
 pub returns-clause-starts : goal.returns-clause-starts
 returns-clause-starts c = λ h items legal hears stand free none.
@@ -141,12 +147,15 @@ returns-clause-starts c = λ h items legal hears stand free none.
     let few : c.args.link.now.express_from - 1 ≤ 7 = omega (arith, from.1) in
     let front = front_of w h t a c.requires.arc legal.0 old.rings stand.rings 0 (c.args.link.now.express_from - 1) (arc w a).express_from c.take_first-2.new.rings f end c.in_ok-frame-2.ensures in
     let decides = c.is_active.ensures w h a t its (λ on. stand.link (ap (λ (x : Arc). x.mode) its ∙ on)) in
-    let loud : ¬ ((c.args.link.now.mode ≡ mode.Negotiate) × (c.args.link.now.policy ≡ policy.Quiet)) = λ p. elim c.else-eq.branch [ else-eq-via-then-eq+else-eq-2 x ↦ search rules | else-eq-via-else-eq x ↦ search rules ] in
+    let loud : ¬ ((c.args.link.now.mode ≡ mode.Negotiate) × (c.args.link.now.policy ≡ policy.Quiet)) =
+    λ p. elim c.else-eq.branch [ else-eq-via-then-eq+else-eq-2 x ↦ search rules | else-eq-via-else-eq x ↦ search rules ] in
     let quieter : ¬ (((arc w a).mode ≡ mode.Negotiate) × ((arc w a).policy ≡ policy.Quiet)) = λ p. loud (ap (λ (x : Arc). x.mode) (sym its) ∙ p.0, ap (λ (x : Arc). x.policy) (sym its) ∙ p.1) in
-    let rule = first_begins w h a t free Item.preemptable (whole_frame f.frame.0 kind.Express) (preemptable_whole w h a t f.frame.0 front (subst (λ r. Decides r (Active w h a t)) c.if-is_active.false decides) quieter) none in
+    let rule = first_begins w h a t free Item.preemptable (whole_frame f.frame.0 kind.Express)
+    (preemptable_whole w h a t f.frame.0 front (subst (λ r. Decides r (Active w h a t)) c.if-is_active.false decides) quieter) none in
     let sized = has_its_size w c.requires.fit t a c.requires.arc c.requires.keeps.0 old new c.requires.keeps.1 0 (c.args.link.now.express_from - 1) few f c.in_ok-frame-2.ensures in
     let begun = c.begin-2.ensures.begins w h a t false (whole_frame f.frame.0 kind.Express) c.requires.arc legal.0 stand.outgoing rule (refl, refl, sized) in
-    frame_started w c.requires.fit t a c.requires.arc c.requires.keeps.0 old new c.requires.keeps.1 0 (c.args.link.now.express_from - 1) few f c.in_ok-frame-2.ensures h items kind.Express tt c.begin-2.result legal stand rule begun refl refl refl refl
+    frame_started w c.requires.fit t a c.requires.arc c.requires.keeps.0 old new c.requires.keeps.1 0
+    (c.args.link.now.express_from - 1) few f c.in_ok-frame-2.ensures h items kind.Express tt c.begin-2.result legal stand rule begun refl refl refl refl
     c.args.partner.now 6 7
 
 pub returns-clause-keeps : goal.returns-clause-keeps
