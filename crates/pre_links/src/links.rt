@@ -134,7 +134,8 @@ impl Link {
     /// What an LLDP frame that begins now says (IEEE 802.3 clause 79.3.7), on an arc of this least
     /// fragment, with this time to live in units of time.
     pub fn advert(&self, add_frag: u8, ttl: u16) -> Advert
-        ensures { (w : Scenario) (h : History) (a t : ℕ) → a < length w.net.arcs → (arc w a).mode ≡ mode.Negotiate
+        ensures add_frag { result.add_frag ≡ add_frag }
+        ensures says { (w : Scenario) (h : History) (a t : ℕ) → a < length w.net.arcs → (arc w a).mode ≡ mode.Negotiate
             → LegalUpTo w (moment_of w t (Phase.starts a)) h
             → LinkStands w h a (t + 1) self.now → (arc w a).add_frag ≡ add_frag → w.net.timing.ttl ≡ ttl → result ≡ AdvertAt w h a t }
     {

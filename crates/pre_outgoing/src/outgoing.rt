@@ -2,7 +2,7 @@ ghost use Rattle.std.specs.Prelude.{◌≡◌, ◌≢◌, ◌↔◌, ◌+◌, �
 ghost use Rattle.std.specs.Bool.{Decides};
 ghost use Rattle.pre_base.specs.declared.limits.TheConstants.{GREATEST_FRAME};
 ghost use Rattle.pre_mpacket.specs.Arrivals.{is_continue};
-ghost use Rattle.pre_mpacket.specs.Spelling.{PlainPacket, IsWhole};
+ghost use Rattle.pre_mpacket.specs.Spelling.{PlainPacket, HasCounts, IsWhole};
 ghost use Rattle.pre_send.specs.Calls.{Call, begun};
 ghost use Rattle.pre_send.specs.Sendings.{Sending, IsSending, IsFree};
 ghost use Rattle.pre_send.specs.Answers.{IsUnderWayAs, kept_part};
@@ -112,6 +112,7 @@ impl Outgoing {
         ensures begins { (w : Scenario) (past : History) (a n : ℕ) (settled : Bool) (c : Start) → a < length w.net.arcs
             → LegalUpTo w (number (length w.net.arcs) now.0 (2 + 3 * length w.net.arcs + a)) past → Sends w past a n settled self.old
             → StartRule w past a now.0 c → IsTold w (chosen choice) c → HasBegun w past now.0 a c result self.new }
+        ensures kind { HasCounts result.kind }
         ensures frames { frames_of self.new.sender ≡ frames_chosen choice ++ frames_of self.old.sender }
     {
         self.start(now, choice)
@@ -125,6 +126,7 @@ impl Outgoing {
             → LegalUpTo w (number (length w.net.arcs) now.0 (2 + 3 * length w.net.arcs + a)) past → Sends w past a n settled self.old
             → StartRule w past a now.0 lldp_begins → frame ≡ lldp_frame (arc w a).from.0 a (AdvertAt w past a now.0)
             → HasBegun w past now.0 a lldp_begins result self.new }
+        ensures kind { HasCounts result.kind }
         ensures frames { frames_of self.new.sender ≡ frames_of self.old.sender }
     {
         self.advert = frame;
@@ -240,6 +242,7 @@ impl Outgoing {
         ensures carries { (cost add_frag : ℕ) (calls : List Call) (packets : List Sending) → Stands self.old.sender cost add_frag calls
             → IsSending cost add_frag calls packets → result.what ≡ what_of (chosen choice) (kept_part packets) }
         ensures counts { (result.ord ≡ self.old.begun) × (self.new.begun ≡ next_count self.old.begun true) × (self.new.continued ≡ next_count self.old.continued (is_continue result.kind)) }
+        ensures kind { HasCounts result.kind }
         ensures keeps { (self.new.carried ≡ result.what) × (self.new.advert ≡ self.old.advert) }
         ensures frames { frames_of self.new.sender ≡ frames_chosen choice ++ frames_of self.old.sender }
     {

@@ -1,6 +1,6 @@
 ghost use Rattle.std.specs.Prelude.{◌≡◌, ◌+◌, ◌^◌, ◌≤◌, ◌<◌, length, replicate};
 ghost use Rattle.pre_base.specs.declared.limits.TheConstants.{GREATEST_FRAME};
-ghost use Rattle.pre_mpacket.specs.Spelling.{PlainPacket, IsWhole};
+ghost use Rattle.pre_mpacket.specs.Spelling.{PlainPacket, HasCounts, IsWhole};
 ghost use Rattle.pre_send.specs.Tasks.{task_kind, task_size, TaskTold};
 ghost use Rattle.pre_send.specs.Packets.{in_one_piece, bare};
 ghost use Rattle.pre_mpacket.specs.declared.packets.Kind.TheVariants as kind;
@@ -37,7 +37,8 @@ pub(crate) struct Going {
 impl Task {
     /// Its kind, and the place of its mData in its frame.
     pub fn kind(&self) -> (Kind, u16)
-        ensures { result ≡ task_kind self.now }
+        ensures kind { result ≡ task_kind self.now }
+        ensures counts { HasCounts result.0 }
     {
         match self {
             Task::Frame(_) | Task::Lldp => (Kind::Express, 0),

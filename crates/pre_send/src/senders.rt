@@ -41,7 +41,7 @@ impl Sender {
     ghost use Rattle.pre_send.specs.Sendings.{IsFree};
     ghost use Rattle.pre_send.specs.Answers.{IsFreeAt, EndsAt, IsInterrupted, IsUnderWayAs};
     ghost use Rattle.pre_send.specs.Endings.{Ends, plans_end, Holds, HoldsAll, HoldsChoice, HoldsTask, EndsPiece, EndsTask};
-    ghost use Rattle.pre_mpacket.specs.Spelling.{PlainPacket, IsWhole};
+    ghost use Rattle.pre_mpacket.specs.Spelling.{PlainPacket, HasCounts, IsWhole};
     ghost use Rattle.pre_send.specs.Tasks.{task_size};
     ghost use Rattle.pre_send.specs.Lendings.{Lends, LendsChoice, Gives};
     ghost use Rattle.pre_send.specs.Owned.{frames_of, frames_chosen, frames_done};
@@ -121,6 +121,7 @@ impl Sender {
     #[tactic(auto, unfolding(crate::specs::Senders::kind_under_way))]
     pub fn under_way(&self) -> Option<(Kind, u16)>
         ensures own { result ≡ kind_under_way self.now }
+        ensures counts { IfSome result (λ x. HasCounts x.0) }
         ensures exact { (cost add_frag : ℕ) (calls : List Call) → Stands self.now cost add_frag calls → IsUnderWayAs cost add_frag calls result }
     {
         let going = self.going.as_ref()?;

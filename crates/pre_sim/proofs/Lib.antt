@@ -10,6 +10,12 @@ pub mod Rows
 pub mod Readiness
 pub mod EndParts
 pub mod ExpiryParts
+pub mod WaitingNow
+pub mod LeftRings
+pub mod ItemsThere
+pub mod BegunLanes
+pub mod RingStarts
+pub mod StartParts
 pub mod TickParts
 pub mod Delivered
 pub mod LandParts

@@ -1,6 +1,6 @@
-ghost use Rattle.std.specs.Prelude.{◌≡◌, ◌<◌, ◌≤◌, ◌+◌, ◌*◌, ◌^◌, List, [], Some, true, false, length, slice_get};
+ghost use Rattle.std.specs.Prelude.{◌≡◌, ◌<◌, ◌≤◌, ◌+◌, ◌*◌, ◌^◌, List, [], Some, true, false, length, slice_get, IfNone, IfSome};
+ghost use Rattle.pre_mpacket.specs.Spelling.{HasCounts};
 ghost use Rattle.pre_send.specs.Senders.{is_free, is_interrupted};
-ghost use Rattle.pre_topo.specs.declared.arcs.Mode.TheVariants.{Negotiate};
 ghost use Rattle.pre_links.specs.Standing.{IsUpTo};
 ghost use Rattle.pre_bridge.specs.Inside.{Entry};
 ghost use Rattle.pre_history.specs.Moments.{Phase};
@@ -39,7 +39,9 @@ pub(crate) fn start_on<W: Watcher>(
     requires settled { IsUpTo lane.old.link now.0 }
     requires keeps { (store : Store) × LaneKeeps (scenario_of plan.now) store arc.0 lane.old }
     ensures settled { IsUpTo lane.new.link now.0 }
-    ensures part { TellsPart plan.now.net.now result (W.took watcher.old) (W.took watcher.new) (W.torn watcher.new) (λ x es. (store : Store) → LanePart (scenario_of plan.now) now.0 (Phase.starts arc.0) arc.0 (Some partner.now) lane.old 0 store store lane.new [] es) (LaneFront (scenario_of plan.now) now.0 (Phase.starts arc.0) arc.0 (Some partner.now) lane.old) NoArrival }
+    ensures part { TellsPart plan.now.net.now result (W.took watcher.old) (W.took watcher.new) (W.torn watcher.new)
+        (λ x es. (store : Store) → LanePart (scenario_of plan.now) now.0 (Phase.starts arc.0) arc.0 (Some partner.now) lane.old 0 store store lane.new [] es)
+        (LaneFront (scenario_of plan.now) now.0 (Phase.starts arc.0) arc.0 (Some partner.now) lane.old) NoArrival }
     ensures cause { HasCause (W.faults watcher.old) (W.faults watcher.new) result }
     ensures same { W.same watcher.old watcher.new }
 {
@@ -47,7 +49,10 @@ pub(crate) fn start_on<W: Watcher>(
     events_before_their_end();
     let link = arc_at(plan.net, arc);
     if !lane.outgoing.free(now) {
-        let waits = lane.rings.highest(Prio(link.express_from), Prio(7)).is_some();
+        let waits = lane
+            .rings
+            .highest(Prio(link.express_from), Prio(7))
+            .is_some();
         lane.outgoing.settle(now, waits);
         return Ok(());
     }
@@ -89,15 +94,14 @@ fn begin_on(
     requires settled { IsUpTo lane.old.link now.0 }
     requires keeps { (store : Store) × LaneKeeps (scenario_of plan.now) store arc.0 lane.old }
     ensures starts { Starts (scenario_of plan.now) now.0 arc.0 partner.now 1 7 lane.old lane.new result }
+    ensures kind { IfSome result (λ b. HasCounts b.kind) }
     ensures keeps { (store : Store) → KeepsOn (scenario_of plan.now) arc.0 store store lane.old lane.new [] }
     ensures settled { IsUpTo lane.new.link now.0 }
 {
     if let Some(frame) = take_first(&mut lane.rings, Prio(link.express_from), Prio(7)) {
         return Some(lane.outgoing.begin(now, Choice::Express(frame)));
     }
-    if link.mode == Mode::Negotiate
-        && let Some(begun) = begin_for_link(plan, now, arc, link, lane, partner)
-    {
+    if let Some(begun) = begin_for_link(plan, now, arc, link, lane, partner) {
         return Some(begun);
     }
     if lane.outgoing.is_interrupted() {
@@ -106,7 +110,7 @@ fn begin_on(
     begin_preemptable(plan, now, arc, link, lane, partner)
 }
 
-/// What begins for the link of an arc that negotiates: a respond, a verify or an LLDP frame.
+/// What begins for the link of an arc, where it negotiates: a respond, a verify or an LLDP frame.
 fn begin_for_link(
     plan: &Plan,
     now: Tick,
@@ -117,14 +121,18 @@ fn begin_for_link(
 ) -> Option<Begun>
     requires arc { arc.0 < length plan.now.net.now.arcs }
     requires link { slice_get plan.now.net.now.arcs arc.0 ≡ Some link.now }
-    requires mode { link.now.mode ≡ Negotiate }
     requires now { now.0 ≤ 4 * 10 ^ 12 }
     requires free { is_free lane.old.outgoing.sender now.0 ≡ true }
     requires settled { IsUpTo lane.old.link now.0 }
     ensures starts { Starts (scenario_of plan.now) now.0 arc.0 partner.now 2 5 lane.old lane.new result }
+    ensures kind { IfSome result (λ b. HasCounts b.kind) }
+    ensures none { IfNone result (lane.new ≡ lane.old) }
     ensures keeps { (store : Store) → KeepsOn (scenario_of plan.now) arc.0 store store lane.old lane.new [] }
     ensures settled { IsUpTo lane.new.link now.0 }
 {
+    if link.mode != Mode::Negotiate {
+        return None;
+    }
     if lane.link.owes_respond(partner) {
         lane.link.respond_begun(now);
         return Some(lane.outgoing.begin(now, Choice::Respond));
@@ -162,6 +170,7 @@ fn begin_preemptable(
     requires settled { IsUpTo lane.old.link now.0 }
     requires keeps { (store : Store) × LaneKeeps (scenario_of plan.now) store arc.0 lane.old }
     ensures starts { Starts (scenario_of plan.now) now.0 arc.0 partner.now 6 7 lane.old lane.new result }
+    ensures kind { IfSome result (λ b. HasCounts b.kind) }
     ensures keeps { (store : Store) → KeepsOn (scenario_of plan.now) arc.0 store store lane.old lane.new [] }
     ensures settled { IsUpTo lane.new.link now.0 }
 {
@@ -201,7 +210,9 @@ pub(crate) fn starts<W: Watcher>(
     requires settled { AreSettled now.0 lanes.old }
     requires keeps { (store : Store) × (entries : List Entry) × Keeps (scenario_of plan.now) store lanes.old entries [] }
     ensures settled { AreSettled now.0 lanes.new }
-    ensures part { TellsPart plan.now.net.now result (W.took watcher.old) (W.took watcher.new) (W.torn watcher.new) (λ x es. (store : Store) → LanesPart (scenario_of plan.now) now.0 (2 + 3 * length plan.now.net.now.arcs) (length plan.now.net.now.arcs) 0 store store lanes.old lanes.new [] es) (LanesFront (scenario_of plan.now) now.0 (2 + 3 * length plan.now.net.now.arcs) lanes.old) NoArrival }
+    ensures part { TellsPart plan.now.net.now result (W.took watcher.old) (W.took watcher.new) (W.torn watcher.new)
+        (λ x es. (store : Store) → LanesPart (scenario_of plan.now) now.0 (2 + 3 * length plan.now.net.now.arcs) (length plan.now.net.now.arcs) 0 store store lanes.old lanes.new [] es)
+        (LanesFront (scenario_of plan.now) now.0 (2 + 3 * length plan.now.net.now.arcs) lanes.old) NoArrival }
     ensures cause { HasCause (W.faults watcher.old) (W.faults watcher.new) result }
     ensures same { W.same watcher.old watcher.new }
 {
