@@ -11,3 +11,4 @@ pub mod Readiness
 pub mod EndParts
 pub mod ExpiryParts
 pub mod TickParts
+pub mod ClosingParts
