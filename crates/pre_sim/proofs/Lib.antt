@@ -11,4 +11,16 @@ pub mod Readiness
 pub mod EndParts
 pub mod ExpiryParts
 pub mod TickParts
+pub mod EntriesWaiting
+pub mod EntriesNew
+pub mod EntriesRun
+pub mod EntriesOne
+pub mod EntriesEarly
+pub mod EntriesInside
+pub mod EntriesSends
+pub mod EntriesTakes
+pub mod EntriesCount
+pub mod EntriesLeft
+pub mod EntriesParts
+pub mod LinksKept
 pub mod ClosingParts
