@@ -22,5 +22,6 @@ pub mod EntriesTakes
 pub mod EntriesCount
 pub mod EntriesLeft
 pub mod EntriesParts
+pub mod SentFrames
 pub mod LinksKept
 pub mod ClosingParts
