@@ -24,4 +24,5 @@ pub mod EntriesLeft
 pub mod EntriesParts
 pub mod SentFrames
 pub mod LinksKept
+pub mod SetsParts
 pub mod ClosingParts
