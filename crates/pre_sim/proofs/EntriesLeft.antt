@@ -1,7 +1,6 @@
 -- The end of a tick's entries: what bridges handed on has left them, and what waits is what came.
-use Rattle.std.proofs.Common.{ℕ, zero, suc, ◌≡◌, ◌≢◌, ◌==◌, ◌∙◌, ◌+◌, ◌*◌, ◌-◌, ◌<◌, ◌≤◌, not, false, List, [], ◌∷◌, ◌++◌, length, filter, refl, sym, ap, arith, subst, None, append_assoc}
+use Rattle.std.proofs.Common.{ℕ, zero, suc, ◌≡◌, ◌==◌, ◌∙◌, ◌+◌, ◌*◌, ◌-◌, ◌<◌, ◌≤◌, not, false, List, [], ◌∷◌, ◌++◌, length, filter, refl, sym, ap, arith, subst, None, append_assoc}
 use Rattle.std.specs.Prelude.{slice_get, replicate}
-use Rattle.std.specs.List.{AllByRecursion as Every}
 use Rattle.std.proofs.Math.Nat.{mul-le-mul_right}
 use Rattle.std.proofs.lemmas.List.{replicate_more}
 use Rattle.std.proofs.lemmas.Option.{slice_get_past}
@@ -33,7 +32,7 @@ use Rattle.pre_links.specs.Standing.{LinkStands}
 use Rattle.pre_links.proofs.Phases.{still_hears, still_stands}
 use Rattle.pre_links.proofs.Early.{behind}
 use Rattle.pre_sim.specs.declared.lanes.Lane.{Lane}
-use Rattle.pre_sim.specs.Stages.{settled, entered, stage_at}
+use Rattle.pre_sim.specs.Stages.{settled, entered}
 use Rattle.pre_sim.specs.Stands.{AreInside, AreRings, RingsStand, LaneStands, LanesStand}
 use Rattle.pre_sim.specs.Sends.{SameButRings, AreSameButRings}
 use Rattle.pre_sim.proofs.Lists.{every_weaker, within, filter_swap}

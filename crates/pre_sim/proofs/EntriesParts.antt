@@ -6,7 +6,7 @@ use Rattle.std.proofs.lemmas.List.{append-nil, length-append}
 use Rattle.std.proofs.lemmas.List.Elements.{filter_map-append}
 use Rattle.pre_topo.specs.declared.network.Network.{Network}
 use Rattle.pre_history.specs.Scenario.{Scenario, send, no_send}
-use Rattle.pre_history.specs.Moments.{Phase, moments}
+use Rattle.pre_history.specs.Moments.{Phase}
 use Rattle.pre_history.specs.History.{History}
 use Rattle.pre_history.specs.Selected.{delivery_of, is_dropped}
 use Rattle.pre_history.specs.Queries.{Begins, Arrivals, Deliveries}

@@ -1,6 +1,5 @@
 -- Frames that come to rings, some after others.
-use Rattle.std.proofs.Common.{ℕ, ◌≡◌, ◌+◌, List, [], ◌++◌, length, refl, sym, ◌∙◌, ap, subst, Some, append_assoc}
-use Rattle.std.specs.Prelude.{slice_get}
+use Rattle.std.proofs.Common.{ℕ, ◌≡◌, ◌+◌, List, [], ◌++◌, length, refl, sym, ◌∙◌, ap, subst, append_assoc}
 use Rattle.std.proofs.lemmas.List.{append-nil, length-append}
 use Rattle.std.proofs.lemmas.List.Elements.{filter_map-append}
 use Rattle.pre_history.specs.Scenario.{Scenario}
@@ -10,7 +9,7 @@ use Rattle.pre_history.specs.Queries.{Deliveries}
 use Rattle.pre_history.specs.Comings.{Coming, EntriesOf}
 use Rattle.pre_sim.specs.declared.lanes.Lane.{Lane}
 use Rattle.pre_sim.specs.Stands.{RingsStand}
-use Rattle.pre_sim.specs.Sends.{BeforeEntries, AreNew, SameButRings, AreSameButRings, ComesPart, ComesFront}
+use Rattle.pre_sim.specs.Sends.{BeforeEntries, AreNew, AreSameButRings, ComesPart, ComesFront}
 use Rattle.pre_sim.proofs.Lists.{count_by-append}
 use Rattle.pre_sim.proofs.EntriesNew.{new_front, new_rest, entries_then}
 use Rattle.pre_sim.proofs.NumberTests.{adds}

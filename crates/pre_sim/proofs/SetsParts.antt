@@ -1,6 +1,6 @@
 -- What the script sets at a tick, line by line.
-use Rattle.std.proofs.Common.{ℕ, zero, suc, ◌≡◌, ◌≢◌, ◌==◌, ◌&&◌, ◌+◌, ◌*◌, ◌<◌, ◌≤◌, nat_le, Bool, true, false, List, [], ◌∷◌, ◌++◌, length, map, filter, take, drop, refl, sym, ◌∙◌, ap, inl, inr, arith, subst, Option, Some, None, append_assoc}
-use Rattle.std.specs.Prelude.{slice_get, slice_index_or, set, count_by, All, unwrap_or, if◌then◌else◌, IsTrue, cond}
+use Rattle.std.proofs.Common.{ℕ, zero, suc, ◌≡◌, ◌≢◌, ◌==◌, ◌&&◌, ◌+◌, ◌<◌, ◌≤◌, nat_le, Bool, true, false, List, [], ◌∷◌, ◌++◌, length, map, filter, take, drop, refl, sym, ◌∙◌, ap, inl, inr, arith, subst, Option, Some, None, append_assoc}
+use Rattle.std.specs.Prelude.{slice_get, slice_index_or, set, count_by, All, unwrap_or, IsTrue, cond}
 use Rattle.std.specs.Option.{option_map_or}
 use Rattle.std.specs.List.{AllByRecursion as Every}
 use Rattle.std.proofs.lemmas.Option.{slice_get-get_or}
@@ -17,10 +17,10 @@ use Rattle.pre_script.specs.declared.scripts.Setting.TheVariants as setting
 use Rattle.pre_script.specs.declared.scripts.SetLine.{SetLine}
 use Rattle.pre_script.specs.Fits as script
 use Rattle.pre_history.specs.Scenario.{Scenario}
-use Rattle.pre_history.specs.Moments.{Phase, moments}
+use Rattle.pre_history.specs.Moments.{Phase}
 use Rattle.pre_history.specs.Placed.{number}
 use Rattle.pre_history.specs.History.{PlainEvent, History}
-use Rattle.pre_history.specs.Selected.{delivery_of, is_dropped}
+use Rattle.pre_history.specs.Selected.{is_dropped}
 use Rattle.pre_history.specs.Queries.{Deliveries, SettingOf}
 use Rattle.pre_history.specs.Rules.{HappensIn, SetsAt}
 use Rattle.pre_history.specs.LinkState.{SettingBefore}
@@ -45,7 +45,7 @@ use Rattle.pre_sim.specs.Reach.{AllFit}
 use Rattle.pre_sim.specs.Keeps.{Store, Keeps}
 use Rattle.pre_sim.specs.Stages.{Stage, untouched}
 use Rattle.pre_sim.specs.Stands.{AreRings, LaneStands, LanesStand, AreSetBefore}
-use Rattle.pre_sim.specs.Parts.{LegalAt, IsFront, SetsPart, SetsFront}
+use Rattle.pre_sim.specs.Parts.{LegalAt, IsFront, SetsPart}
 use Rattle.pre_sim.proofs.Keeping.{keep_lane}
 use Rattle.pre_sim.proofs.Lists.{every-append, every_weaker, within, there, set_found, set_elsewhere, read_at, take_one}
 use Rattle.pre_sim.proofs.NumberTests.{is_eq, not_eq, is_le, no_le}

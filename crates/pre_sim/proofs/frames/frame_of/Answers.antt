@@ -1,5 +1,5 @@
-use Rattle.std.proofs.Common.{◌≡◌, ◌++◌, drop, subst}
-use Rattle.pre_history.specs.Scenario.{Scenario, send, FrameOf}
+use Rattle.std.proofs.Common.{◌≡◌, subst}
+use Rattle.pre_history.specs.Scenario.{Scenario, send}
 use Rattle.pre_sim.specs.Arriving.{IsStored}
 use Rattle.pre_sim.specs.Parts.{scenario_of}
 use Rattle.pre_sim.proofs.SentFrames.{octets_taken, frame_is}

@@ -1,5 +1,5 @@
-use Rattle.std.proofs.Common.{rules, arith, refl, sym, subst, ap, ◌∙◌, ◌≡◌, ◌≢◌, ◌+◌, ◌<◌, ◌≤◌, [], ◌∷◌, ◌++◌, List, length, take, Some, true, false}
-use Rattle.std.specs.Prelude.{slice_get, slice_index_or, set}
+use Rattle.std.proofs.Common.{rules, arith, refl, sym, subst, ◌≡◌, ◌≢◌, ◌+◌, [], ◌∷◌, ◌++◌, take, Some}
+use Rattle.std.specs.Prelude.{slice_get, slice_index_or}
 use Rattle.pre_script.specs.declared.scripts.SetLine.{SetLine}
 use Rattle.pre_history.specs.Scenario.{Scenario}
 use Rattle.pre_history.specs.History.{PlainEvent}
