@@ -81,7 +81,8 @@ module _ (w : Scenario) (p : Progress) (until : w.script.until.0 ≤ 4 * 10 ^ 12
     pub one_more_line : CountsPart w p (n + 1) (es ++ fs)
     one_more_line h r =
         let few = few_arrivals w (w.script.until.0 + 1) h n n_lt r.legal.0 in
-        let c = next w h (number A (w.script.until.0 + 1) 0) (stage_at A (w.script.until.0 + 1) 0 n) (of_arc n (inside w.net w.streams r.calls)) n_lt r.legal.0 (omega (arith, few, until)) (r.lanes n lane here) in
+        let c = next w h (number A (w.script.until.0 + 1) 0) (stage_at A (w.script.until.0 + 1) 0 n) (of_arc n (inside w.net w.streams r.calls)) n_lt r.legal.0 (omega (arith, few, until))
+        (r.lanes n lane here) in
         let line : CountLines w h (suc n) (es ++ fs) = (es, c.0, so_far h r, c.1, ap (λ gs. es ++ gs) c.2) in
         let same : suc n ≡ n + 1 = omega arith in
         subst (λ m. CountLines w h m (es ++ fs)) same line

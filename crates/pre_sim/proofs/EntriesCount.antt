@@ -35,7 +35,8 @@ pub sums_up : (a b c n m : ℕ) → a ≡ b + c → n ≡ m → a + n ≡ b + (c
 sums_up a b c n m p q = omega (arith, p, q)
 
 -- what is kept, where a frame came to its ring
-pub kept_on : (w : Scenario) (t : ℕ) (old new : Progress) (lanes : List Lane) → IsKept w t old → new.relay ≡ old.relay → new.lanes.items ≡ lanes → KeepsSame w old.store new.store old.lanes.items lanes → IsKept w t new
+pub kept_on : (w : Scenario) (t : ℕ) (old new : Progress) (lanes : List Lane) → IsKept w t old → new.relay ≡ old.relay → new.lanes.items ≡ lanes
+    → KeepsSame w old.store new.store old.lanes.items lanes → IsKept w t new
 kept_on w t old new lanes kept relay are same = record {
   calls = kept.calls;
   stands = subst (λ (r : Relay). Stands r w.net w.streams kept.calls) (sym relay) kept.stands;
@@ -54,12 +55,14 @@ is_not_now w t k lines same is =
     let test : false ≡ ((send w k).send.tick.0 == t) = subst (λ (ls : List SendLine). false ≡ ((slice_index_or ls k no_send).send.tick.0 == t)) same is in
     grind (arith, nat_tests)
 
-module _ (w : Scenario) (t from : ℕ) (old : List Lane) (count : ℕ) (mid : List Lane) (lost : ℕ) (es : History) (k : ℕ) (at : k ≡ from + count) (so_far : ComesPart w t (sent_frames w from count) old mid lost es) where
+module _ (w : Scenario) (t from : ℕ) (old : List Lane) (count : ℕ) (mid : List Lane) (lost : ℕ) (es : History) (k : ℕ) (at : k ≡ from + count)
+    (so_far : ComesPart w t (sent_frames w from count) old mid lost es) where
   next : sent_frames w from count ++ sent_frame w k ∷ [] ≡ sent_frames w from (count + 1)
   next = let more : count + 1 ≡ suc count = omega arith in ap (λ n. sent_frames w from count ++ sent_frame w n ∷ []) at ∙ ap (sent_frames w from) (sym more)
 
   -- one more
-  pub one_more_send : (new : List Lane) (dropped : ℕ) (fs : History) → ComesPart w t (sent_frame w k ∷ []) mid new dropped fs → ComesPart w t (sent_frames w from (count + 1)) old new (lost + dropped) (es ++ fs)
+  pub one_more_send : (new : List Lane) (dropped : ℕ) (fs : History) → ComesPart w t (sent_frame w k ∷ []) mid new dropped fs
+      → ComesPart w t (sent_frames w from (count + 1)) old new (lost + dropped) (es ++ fs)
   one_more_send new dropped fs part =
       comes_same w t old new (sent_frames w from count ++ sent_frame w k ∷ []) (sent_frames w from (count + 1)) (lost + dropped) (es ++ fs) next
       (come_then w t old (sent_frames w from count) (sent_frame w k ∷ []) mid lost es so_far new dropped fs part)
@@ -76,6 +79,7 @@ one_more_now w t from n so_far is k le lt = elim (cases_lt k n) [
   | inr last ↦ let same : n ≡ k = omega (arith, last, lt) in subst (λ j. (send w j).send.tick.0 ≡ t) same is
 ]
 
-pub sends_front : (w : Scenario) (t : ℕ) (old : Progress) (count : ℕ) (es : History) → old.sent + count ≤ length w.script.sends → ((k : ℕ) → old.sent ≤ k → k < old.sent + count → (send w k).send.tick.0 ≡ t)
+pub sends_front : (w : Scenario) (t : ℕ) (old : Progress) (count : ℕ) (es : History) → old.sent + count ≤ length w.script.sends
+    → ((k : ℕ) → old.sent ≤ k → k < old.sent + count → (send w k).send.tick.0 ≡ t)
     → ComesFront w t (sent_frames w old.sent count) old.lanes.items es → SendsFront w t old es
 sends_front w t old count es within now front = (count, within, now, front)

@@ -20,7 +20,8 @@ begin_before arcs t a (PlainEvent.begin c) b (m, lt, (c_lt, at)) is = go (c.arc 
         subst (λ (x : Begin). x.tick < t) same (tick_lt (moments arcs) c.tick t (1 + 3 * arcs) (omega (arith, at, lt)))
 begin_before arcs t a e b before is = absurd (cc is)
 
-ring_by : (arcs t a p : ℕ) (entered : Bool) (c : Entry) (r : RingEntry) → c.tick < t → (if (c.arc == a) && (c.prio == p) then Some (record { tick = c.tick; frame = c.frame; entered = entered }) else None) ≡ Some r → r.tick ≤ t
+ring_by : (arcs t a p : ℕ) (entered : Bool) (c : Entry) (r : RingEntry) → c.tick < t
+    → (if (c.arc == a) && (c.prio == p) then Some (record { tick = c.tick; frame = c.frame; entered = entered }) else None) ≡ Some r → r.tick ≤ t
 ring_by arcs t a p entered c r lt is = go ((c.arc == a) && (c.prio == p)) is
   where
     go : (same : Bool) → (if same then Some (record { tick = c.tick; frame = c.frame; entered = entered }) else None) ≡ Some r → r.tick ≤ t

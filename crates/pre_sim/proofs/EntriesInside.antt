@@ -27,8 +27,10 @@ AreRising (x ∷ xs) = Every (λ (y : Arrive). x.tick < y.tick) xs × AreRising 
 
 rising_from : (xs : List Arrive) → ((i k : ℕ) (x y : Arrive) → slice_get xs i ≡ Some x → slice_get xs (suc (i + k)) ≡ Some y → x.tick < y.tick) → AreRising xs
 rising_from [] apart = tt
-rising_from (x ∷ xs) apart =
-    (every_all xs (λ k y at. apart 0 k x y refl (subst (λ n. slice_get xs n ≡ Some y) (plus_zero k) at)), rising_from xs (λ i k y z at at'. apart (suc i) k y z at (subst (λ n. slice_get xs n ≡ Some z) (next i k) at')))
+rising_from (x ∷ xs) apart = (
+  every_all xs (λ k y at. apart 0 k x y refl (subst (λ n. slice_get xs n ≡ Some y) (plus_zero k) at)),
+  rising_from xs (λ i k y z at at'. apart (suc i) k y z at (subst (λ n. slice_get xs n ≡ Some z) (next i k) at')),
+)
   where
     plus_zero : (k : ℕ) → k ≡ 0 + k
     plus_zero k = omega arith
@@ -64,15 +66,19 @@ onward_due w a bs x o is = go (is_frame_result x.result) (option_and_then (λ b.
     last_step f None is = absurd (cc is)
     last_step f (Some b) is = let same : record { due = x.tick + latency w a; arc = b; frame = f } ≡ o = cc is in ap (λ (z : Onward). z.due) (sym same)
 
-    go : (b : Bool) (f : Option ℕ) → (if b then option_and_then {U = Onward} (λ f. option_map (λ b. record { due = x.tick + latency w a; arc = b; frame = f }) (next_arc w a f)) f else None) ≡ Some o → o.due ≡ x.tick + latency w a
+    go : (b : Bool) (f : Option ℕ)
+        → (if b then option_and_then {U = Onward} (λ f. option_map (λ b. record { due = x.tick + latency w a; arc = b; frame = f }) (next_arc w a f)) f else None) ≡ Some o
+        → o.due ≡ x.tick + latency w a
     go false f is = absurd (cc is)
     go true None is = absurd (cc is)
     go true (Some f) is = last_step f (next_arc w a f) is
 
 -- those of later arrivals are due later
-later_dues : (w : Scenario) (a t : ℕ) (bs : List Begin) (xs : List Arrive) (items : List Entry) → Every (λ (x : Arrive). t < x.tick + latency w a) xs → filter_map (onward w a bs) xs ≡ map passes items → Every (λ (p : Entry). t < p.due) items
+later_dues : (w : Scenario) (a t : ℕ) (bs : List Begin) (xs : List Arrive) (items : List Entry) → Every (λ (x : Arrive). t < x.tick + latency w a) xs
+    → filter_map (onward w a bs) xs ≡ map passes items → Every (λ (p : Entry). t < p.due) items
 later_dues w a t bs xs items late are =
-    from_map items (subst (Every (λ (o : Onward). t < o.due)) are (every_selected (onward w a bs) (λ (x : Arrive). t < x.tick + latency w a) (λ (o : Onward). t < o.due) (λ x o lt is. let due = onward_due w a bs x o is in omega (arith, lt, due)) xs late))
+    from_map items (subst (Every (λ (o : Onward). t < o.due)) are (every_selected (onward w a bs) (λ (x : Arrive). t < x.tick + latency w a) (λ (o : Onward). t < o.due)
+    (λ x o lt is. let due = onward_due w a bs x o is in omega (arith, lt, due)) xs late))
   where
     from_map : (ps : List Entry) → Every (λ (o : Onward). t < o.due) (map passes ps) → Every (λ (p : Entry). t < p.due) ps
     from_map [] all = tt
@@ -131,8 +137,11 @@ settled_inside w a t bs xs items rise is = elim (first_due w a t bs (drop is.gon
         gone = is.gone + 1;
         few = one.2;
         past = subst (Every (λ (y : Arrive). y.tick + latency w a < t + 1)) (sym one.1)
-            (every-append (λ (y : Arrive). y.tick + latency w a < t + 1) (take is.gone xs) (x ∷ []) (every_weaker (λ (y : Arrive). y.tick + latency w a < t) (λ (y : Arrive). y.tick + latency w a < t + 1) (λ y lt. omega (arith, lt)) (take is.gone xs) is.past) (omega (arith, f.due), tt));
-        later = subst (Every (λ (y : Arrive). t + 1 ≤ y.tick + latency w a)) (sym one.0) (every_weaker (λ (y : Arrive). t < y.tick + latency w a) (λ (y : Arrive). t + 1 ≤ y.tick + latency w a) (λ y lt. omega (arith, lt)) rest f.behind);
+            (every-append (λ (y : Arrive). y.tick + latency w a < t + 1) (take is.gone xs) (x ∷ [])
+            (every_weaker (λ (y : Arrive). y.tick + latency w a < t) (λ (y : Arrive). y.tick + latency w a < t + 1) (λ y lt. omega (arith, lt)) (take is.gone xs) is.past)
+            (omega (arith, f.due), tt));
+        later = subst (Every (λ (y : Arrive). t + 1 ≤ y.tick + latency w a)) (sym one.0)
+            (every_weaker (λ (y : Arrive). t < y.tick + latency w a) (λ (y : Arrive). t + 1 ≤ y.tick + latency w a) (λ y lt. omega (arith, lt)) rest f.behind);
         are = ap (filter_map (onward w a bs)) one.0 ∙ one_gone w a t bs x rest items f.due f.behind (ap (filter_map (onward w a bs)) (sym f.split) ∙ is.are);
       }
   | inr late ↦ record {
@@ -179,7 +188,8 @@ one_relayed w h t a x rest items due late are =
     let none = none_relayed w h t a rest (every_weaker (λ (y : Arrive). t < y.tick + latency w a) (λ (y : Arrive). y.tick + latency w a ≢ t) (λ y lt e. omega (arith, lt, e)) rest late) in
     (λ i. cons_option (relayed_now w h t a x due i) (none i)) ∙ go (onward w a (Begins h a) x) refl are
   where
-    go : (o : Option Onward) → onward w a (Begins h a) x ≡ o → cons_option o (filter_map (onward w a (Begins h a)) rest) ≡ map passes items → cons_option (option_map coming o) [] ≡ map coming_of (filter (is_due t) items)
+    go : (o : Option Onward) → onward w a (Begins h a) x ≡ o → cons_option o (filter_map (onward w a (Begins h a)) rest) ≡ map passes items
+        → cons_option (option_map coming o) [] ≡ map coming_of (filter (is_due t) items)
     go None is are = sym (ap (map coming_of) (none_due t items (later_dues w a t (Begins h a) rest items late are)))
     go (Some o) is are = taken items are
       where
@@ -193,16 +203,19 @@ one_relayed w h t a x rest items due late are =
             rw (is_le p.due t (omega (arith, now))) (ap (λ z. coming z ∷ []) first ∙ ap (λ xs. coming_of p ∷ map coming_of xs) (sym none))
 
 -- the frames that an arc's bridge hands on at the tick
-pub relayed_are : (w : Scenario) (h : History) (t a : ℕ) (items : List Entry) → AreRising (Arrivals h a) → AreInside w a (Begins h a) (Arrivals h a) t items → filter_map (relayed w h t a) (Arrivals h a) ≡ map coming_of (filter (is_due t) items)
+pub relayed_are : (w : Scenario) (h : History) (t a : ℕ) (items : List Entry) → AreRising (Arrivals h a) → AreInside w a (Begins h a) (Arrivals h a) t items
+    → filter_map (relayed w h t a) (Arrivals h a) ≡ map coming_of (filter (is_due t) items)
 relayed_are w h t a items rise is =
-    let before = none_relayed w h t a (take is.gone (Arrivals h a)) (every_weaker (λ (y : Arrive). y.tick + latency w a < t) (λ (y : Arrive). y.tick + latency w a ≢ t) (λ y lt e. omega (arith, lt, e)) (take is.gone (Arrivals h a)) is.past) in
+    let before = none_relayed w h t a (take is.gone (Arrivals h a)) (every_weaker (λ (y : Arrive). y.tick + latency w a < t) (λ (y : Arrive). y.tick + latency w a ≢ t)
+    (λ y lt e. omega (arith, lt, e)) (take is.gone (Arrivals h a)) is.past) in
     ap (filter_map (relayed w h t a)) (sym (take-append-drop is.gone (Arrivals h a)))
     ∙ (filter_map-append (relayed w h t a) (take is.gone (Arrivals h a)) (drop is.gone (Arrivals h a))
     ∙ (ap (λ cs. cs ++ filter_map (relayed w h t a) (drop is.gone (Arrivals h a))) before
     ∙ elim (first_due w a t (Begins h a) (drop is.gone (Arrivals h a)) items (rising_drop is.gone (Arrivals h a) rise) is.later) [
       | inl (x, rest, f) ↦ ap (filter_map (relayed w h t a)) f.split ∙ one_relayed w h t a x rest items f.due f.behind (ap (filter_map (onward w a (Begins h a))) (sym f.split) ∙ is.are)
       | inr late ↦
-          none_relayed w h t a (drop is.gone (Arrivals h a)) (every_weaker (λ (y : Arrive). t < y.tick + latency w a) (λ (y : Arrive). y.tick + latency w a ≢ t) (λ y lt e. omega (arith, lt, e)) (drop is.gone (Arrivals h a)) late)
+          none_relayed w h t a (drop is.gone (Arrivals h a)) (every_weaker (λ (y : Arrive). t < y.tick + latency w a) (λ (y : Arrive). y.tick + latency w a ≢ t) (λ y lt e. omega (arith, lt, e))
+          (drop is.gone (Arrivals h a)) late)
           ∙ sym (ap (map coming_of) (none_due t items (later_dues w a t (Begins h a) (drop is.gone (Arrivals h a)) items late is.are)))
     ]))
 
@@ -213,7 +226,8 @@ few_due w h t a items rise is = elim (first_due w a t (Begins h a) (drop is.gone
   | inr late ↦ let none = ap length (none_due t items (later_dues w a t (Begins h a) (drop is.gone (Arrivals h a)) items late is.are)) in omega (arith, none)
 ]
   where
-    one : (x : Arrive) (rest : List Arrive) → FirstDue w a t (Begins h a) (drop is.gone (Arrivals h a)) items x rest → (ps : List Entry) → filter_map (onward w a (Begins h a)) (x ∷ rest) ≡ map passes ps → length (filter (is_due t) ps) ≤ 1
+    one : (x : Arrive) (rest : List Arrive) → FirstDue w a t (Begins h a) (drop is.gone (Arrivals h a)) items x rest → (ps : List Entry)
+        → filter_map (onward w a (Begins h a)) (x ∷ rest) ≡ map passes ps → length (filter (is_due t) ps) ≤ 1
     one x rest f ps are = go (onward w a (Begins h a) x) are
       where
         at_most : (p : Entry) (qs : List Entry) → filter (is_due t) qs ≡ [] → length (filter (is_due t) (p ∷ qs)) ≤ 1

@@ -107,7 +107,8 @@ module _ (w : Scenario) (t : ℕ) (h es : History) (legal : LegalUpTo w (moment_
     arrivals = same_arrivals A t k a k_lt a_lt h es (omega (arith, a_lt)) at
 
     -- the lane of an arc, of which only the rings changed
-    all_entered : (was lane : Lane) (items : List Entry) → SameButRings was lane → AreRings w (h ++ es) a lane.rings → LaneStands w h a (settled t) was items → LaneStands w (h ++ es) a (entered t) lane (left_of t items)
+    all_entered : (was lane : Lane) (items : List Entry) → SameButRings was lane → AreRings w (h ++ es) a lane.rings → LaneStands w h a (settled t) was items
+        → LaneStands w (h ++ es) a (entered t) lane (left_of t items)
     all_entered was lane items same rings is = record {
       rings = rings;
       outgoing = subst (λ (o : Outgoing). Sends w (h ++ es) a t false o) (sym same.outgoing)

@@ -16,7 +16,8 @@ use Rattle.pre_sim.proofs.NumberTests.{same_number}
 
 -- ---- of a whole moment
 
-every_apart : (c : Coming) (cs : List Coming) → ((j : ℕ) (d : Coming) → j < length cs → c.arc ≡ (slice_index_or cs j d).arc → c.frame ≢ (slice_index_or cs j d).frame) → Every (λ (d : Coming). c.arc ≡ d.arc → c.frame ≢ d.frame) cs
+every_apart : (c : Coming) (cs : List Coming) → ((j : ℕ) (d : Coming) → j < length cs → c.arc ≡ (slice_index_or cs j d).arc → c.frame ≢ (slice_index_or cs j d).frame)
+    → Every (λ (d : Coming). c.arc ≡ d.arc → c.frame ≢ d.frame) cs
 every_apart c [] apart = tt
 every_apart c (d ∷ cs) apart = (apart 0 c (omega arith), every_apart c cs (λ j e lt. apart (suc j) e (omega (arith, lt))))
 
@@ -47,7 +48,8 @@ none_begins w t a c true = refl
 none_begins w t a c false = refl
 
 -- it is of the frame and the arc that came
-its_entry : (w : Scenario) (t a p f : ℕ) (c : Coming) (b : Bool) → (c.arc ≡ a → c.frame ≢ f) → Every (λ (e : RingEntry). e.frame ≢ f) (cons_option (entry_on a p (if b then PlainEvent.dropped (entry_for w t c) else PlainEvent.enter (entry_for w t c))) [])
+its_entry : (w : Scenario) (t a p f : ℕ) (c : Coming) (b : Bool) → (c.arc ≡ a → c.frame ≢ f)
+    → Every (λ (e : RingEntry). e.frame ≢ f) (cons_option (entry_on a p (if b then PlainEvent.dropped (entry_for w t c) else PlainEvent.enter (entry_for w t c))) [])
 its_entry w t a p f c true other = go (c.arc == a) ((row w c.frame).prio == p) refl
   where
     go : (x y : Bool) → (c.arc == a) ≡ x → Every (λ (e : RingEntry). e.frame ≢ f) (cons_option (if x && y then Some (record { tick = t; frame = c.frame; entered = false }) else None) [])
@@ -74,7 +76,8 @@ new_after w t h c d other is =
           (every-append (λ (x : RingEntry). x.frame ≢ d.frame) (Entries h d.arc p) (Entries (e ∷ []) d.arc p) (is.uncome p) (its_entry w t d.arc p d.frame c full other));
     }
 
-all_new_after : (w : Scenario) (t : ℕ) (h : History) (c : Coming) (ds : List Coming) → Every (λ (d : Coming). c.arc ≡ d.arc → c.frame ≢ d.frame) ds → AreNew w h ds → AreNew w (h ++ entry_event w t h c ∷ []) ds
+all_new_after : (w : Scenario) (t : ℕ) (h : History) (c : Coming) (ds : List Coming) → Every (λ (d : Coming). c.arc ≡ d.arc → c.frame ≢ d.frame) ds → AreNew w h ds
+    → AreNew w (h ++ entry_event w t h c ∷ []) ds
 all_new_after w t h c [] other all = tt
 all_new_after w t h c (d ∷ ds) (here, more) (is, apart, rest) = (new_after w t h c d here is, apart, all_new_after w t h c ds more rest)
 

@@ -19,7 +19,8 @@ use Rattle.pre_sim.proofs.EntriesWaiting.{waits_still, enters, drops, with_room,
 use Rattle.pre_sim.proofs.Keeping.{keep_entered, keep_dropped}
 use Rattle.pre_sim.proofs.Lists.{set_found, set_elsewhere}
 
-module _ (w : Scenario) (t a : ℕ) (f : FrameRef) (store : Store) (old : List Lane) (lane : Lane) (here : slice_get old a ≡ Some lane) (right : IsFrameOf w store f) (lane_keeps : LaneKeeps w store a lane) where
+module _ (w : Scenario) (t a : ℕ) (f : FrameRef) (store : Store) (old : List Lane) (lane : Lane) (here : slice_get old a ≡ Some lane) (right : IsFrameOf w store f)
+    (lane_keeps : LaneKeeps w store a lane) where
   abbrev entry : Entry
   entry = record { tick = t; arc = a; prio = f.prio; frame = f.frame.0 }
 
@@ -47,7 +48,8 @@ module _ (w : Scenario) (t a : ℕ) (f : FrameRef) (store : Store) (old : List L
     drops_so : capacity_at lane.rings f.prio ≤ length (frames_at lane.rings f.prio) → entry_event w t h coming ≡ PlainEvent.dropped entry
     drops_so full =
         let fits = (stand a lane here).fits f.prio in
-        drops w t h coming (omega (arith, many, size, full, fits, as_many f.prio, most f.prio)) ∙ ap (λ p. PlainEvent.dropped (record { tick = t; arc = a; prio = p; frame = f.frame.0 })) (sym right.prio)
+        drops w t h coming (omega (arith, many, size, full, fits, as_many f.prio, most f.prio))
+        ∙ ap (λ p. PlainEvent.dropped (record { tick = t; arc = a; prio = p; frame = f.frame.0 })) (sym right.prio)
 
     -- with the lane that the frame came to
     all_stand : (g : History) (new : Lane) → AreRings w g a new.rings → ((b : ℕ) (l : Lane) → b ≢ a → AreRings w h b l.rings → AreRings w g b l.rings) → RingsStand w g (set old a new)
@@ -90,7 +92,8 @@ module _ (w : Scenario) (t a : ℕ) (f : FrameRef) (store : Store) (old : List L
   drops_so_many store' new true es p = sym (ap (count_by is_dropped) p.3)
   drops_so_many store' new false es p = sym (ap (count_by is_dropped) p.3)
 
-  told_so : (store' : Store) (new : Port) (entered : Bool) (es : History) → RingTells t a f store store' lane.rings new entered es → (h : History) → RingsStand w h old → BeforeEntries t h → es ≡ entry_event w t h coming ∷ []
+  told_so : (store' : Store) (new : Port) (entered : Bool) (es : History) → RingTells t a f store store' lane.rings new entered es → (h : History) → RingsStand w h old → BeforeEntries t h
+      → es ≡ entry_event w t h coming ∷ []
   told_so store' new true es (room, rings, stored, told) h stand early = told ∙ ap (λ e. e ∷ []) (sym (enters_so h stand early room))
   told_so store' new false es (full, rings, stored, told) h stand early = told ∙ ap (λ e. e ∷ []) (sym (drops_so h stand early full))
 
@@ -105,14 +108,16 @@ module _ (w : Scenario) (t a : ℕ) (f : FrameRef) (store : Store) (old : List L
     | inr other ↦ (l, sym (set_elsewhere old a b new other) ∙ at, record { outgoing = refl; incoming = refl; partner = refl; setting = refl; link = refl })
   ]
 
-  keeps_so : GoesOver w f.frame a → (store' : Store) (new : Lane) (entered : Bool) (es : History) → SameButRings lane new → RingTells t a f store store' lane.rings new.rings entered es → KeepsCome w store store' old (set old a new) f
+  keeps_so : GoesOver w f.frame a → (store' : Store) (new : Lane) (entered : Bool) (es : History) → SameButRings lane new → RingTells t a f store store' lane.rings new.rings entered es
+      → KeepsCome w store store' old (set old a new) f
   keeps_so over store' new true es same (room, rings, stored, told) =
       let below = with_room lane.rings f.prio (length (frames_at lane.rings f.prio)) lane_keeps.eight room in
       subst (λ (s : Store). KeepsCome w store s old (set old a new) f) (sym stored) (keep_entered w a f store old lane new here over below rings same.outgoing)
   keeps_so over store' new false es same (full, rings, stored, told) =
       subst (λ (s : Store). KeepsCome w store s old (set old a new) f) (sym stored) (keep_dropped w a f store old lane new here rings same.outgoing)
 
-  pub come_part : GoesOver w f.frame a → (store' : Store) (new : Lane) (entered : Bool) (es : History) → SameButRings lane new → RingTells t a f store store' lane.rings new.rings entered es → ComePart w t a f store store' old (set old a new) entered es
+  pub come_part : GoesOver w f.frame a → (store' : Store) (new : Lane) (entered : Bool) (es : History) → SameButRings lane new → RingTells t a f store store' lane.rings new.rings entered es
+      → ComePart w t a f store store' old (set old a new) entered es
   come_part over store' new entered es same told = record {
     comes = record {
       deliveries = delivers_none store' new.rings entered es told;

@@ -50,7 +50,8 @@ module _ (w : Scenario) (fit : AllFit w.net w.streams w.script) (t : ℕ) (old :
   abbrev A : ℕ
   A = length w.net.arcs
 
-  module _ (h : History) (calls : List Call) (legal : LegalAt w t (1 + 3 * A) h) (stand : LanesStand w h t (1 + 3 * A) old.lanes.items (inside w.net w.streams calls)) (sent_before : AreSentBefore w t old.sent) where
+  module _ (h : History) (calls : List Call) (legal : LegalAt w t (1 + 3 * A) h) (stand : LanesStand w h t (1 + 3 * A) old.lanes.items (inside w.net w.streams calls))
+      (sent_before : AreSentBefore w t old.sent) where
     abbrev entries : List Entry
     entries = inside w.net w.streams calls
 
@@ -110,7 +111,8 @@ module _ (w : Scenario) (fit : AllFit w.net w.streams w.script) (t : ℕ) (old :
         let handed = handed_on w t (inside w.net w.streams calls) in
         let frames = sent_frames w mid.sent count in
         let rest = sends_from w t (mid.sent + count) (drop (mid.sent + count) w.script.sends) in
-        let split : sends_from w t old.sent (drop old.sent w.script.sends) ≡ frames ++ rest = ap (λ n. sends_from w t n (drop n w.script.sends)) (sym same_sent) ∙ next_sends w t mid.sent count within now in
+        let split : sends_from w t old.sent (drop old.sent w.script.sends) ≡ frames ++ rest = ap (λ n. sends_from w t n (drop n w.script.sends)) (sym same_sent)
+        ∙ next_sends w t mid.sent count within now in
         let all : Comings w h t ≡ (handed ++ frames) ++ rest = all_comings h calls legal stand sent_before ∙ (ap (λ cs. handed ++ cs) split ∙ sym (append_assoc handed frames rest)) in
         some_front h calls legal stand sent_before ((handed ++ frames) ++ rest) all (es ++ fs)
         (front_more w t old.lanes.items (handed ++ frames) rest (es ++ fs) (front_then w t old.lanes.items handed frames mid.lanes.items lost es (first.come calls stands) fs front))
@@ -120,7 +122,8 @@ module _ (w : Scenario) (fit : AllFit w.net w.streams w.script) (t : ℕ) (old :
       cs entries = handed_on w t entries ++ sent_frames w mid.sent second.count
 
       whole : (calls : List Call) → Stands old.relay w.net w.streams calls → ComesPart w t (cs (inside w.net w.streams calls)) old.lanes.items new.lanes.items (lost + second.lost) (es ++ fs)
-      whole calls stands = come_then w t old.lanes.items (handed_on w t (inside w.net w.streams calls)) (sent_frames w mid.sent second.count) mid.lanes.items lost es (first.come calls stands) new.lanes.items second.lost fs second.part
+      whole calls stands = come_then w t old.lanes.items (handed_on w t (inside w.net w.streams calls)) (sent_frames w mid.sent second.count) mid.lanes.items lost es
+          (first.come calls stands) new.lanes.items second.lost fs second.part
 
       module _ (sent_before : AreSentBefore w t old.sent) where
         sent_within : new.sent ≤ length w.script.sends
@@ -156,14 +159,16 @@ module _ (w : Scenario) (fit : AllFit w.net w.streams w.script) (t : ℕ) (old :
             ∙ (ap (λ xs. sent_frames w mid.sent second.count ++ xs) (none_left w t new.sent new.sent w.script.sends after) ∙ append-nil (sent_frames w mid.sent second.count))))
 
       -- the frames inside behind it
-      all_left : LeftLaws → (h : History) (calls : List Call) → LegalAt w t (1 + 3 * A) h → LanesStand w h t (1 + 3 * A) old.lanes.items (inside w.net w.streams calls) → AreSentBefore w t old.sent → Stands old.relay w.net w.streams calls
+      all_left : LeftLaws → (h : History) (calls : List Call) → LegalAt w t (1 + 3 * A) h → LanesStand w h t (1 + 3 * A) old.lanes.items (inside w.net w.streams calls)
+          → AreSentBefore w t old.sent → Stands old.relay w.net w.streams calls
           → LanesStand w (h ++ (es ++ fs)) t (2 + 3 * A) new.lanes.items (left_of t (inside w.net w.streams calls))
           → (calls' : List Call) × Stands new.relay w.net w.streams calls' × LanesStand w (h ++ (es ++ fs)) t (2 + 3 * A) new.lanes.items (inside w.net w.streams calls')
       all_left left_laws h calls legal stand sent_before stands lanes =
           let left = first.left calls stands in
           let few_of : length (dues t A (inside w.net w.streams calls)) ≤ A = few h calls legal stand sent_before in
           let enough : length (dues t A (inside w.net w.streams calls)) ≤ left.0 = omega (arith, left.2, few_of) in
-          let now : inside w.net w.streams (calls ++ replicate left.0 (taken t)) ≡ left_of t (inside w.net w.streams calls) = left_inside left_laws old.relay w.net w.streams calls t stands left.0 enough in (
+          let now : inside w.net w.streams (calls ++ replicate left.0 (taken t)) ≡ left_of t (inside w.net w.streams calls) =
+          left_inside left_laws old.relay w.net w.streams calls t stands left.0 enough in (
             calls ++ replicate left.0 (taken t),
             subst (λ (r : Relay). Stands r w.net w.streams (calls ++ replicate left.0 (taken t))) (sym second.relay) left.1,
             subst (λ xs. LanesStand w (h ++ (es ++ fs)) t (2 + 3 * A) new.lanes.items xs) (sym now) lanes,
@@ -176,7 +181,8 @@ module _ (w : Scenario) (fit : AllFit w.net w.streams w.script) (t : ℕ) (old :
         delivered = second.delivered ∙ delivered;
         set = second.set ∙ set;
         legal = λ h calls legal stands stand sent_before.
-            let all : Comings w h t ≡ cs (inside w.net w.streams calls) = all_comings h calls legal stand sent_before ∙ ap (λ xs. handed_on w t (inside w.net w.streams calls) ++ xs) (sends_are sent_before) in
+            let all : Comings w h t ≡ cs (inside w.net w.streams calls) = all_comings h calls legal stand sent_before
+            ∙ ap (λ xs. handed_on w t (inside w.net w.streams calls) ++ xs) (sends_are sent_before) in
             let comes = whole calls stands in
             let done = comes.come h (subst (AreNew w h) all (all_new h calls legal stand sent_before)) (rings h calls legal stand sent_before) (early h calls legal stand sent_before) in
             let told : es ++ fs ≡ EntriesOf w t h (Comings w h t) = done.0 ∙ ap (EntriesOf w t h) (sym all) in
@@ -185,8 +191,10 @@ module _ (w : Scenario) (fit : AllFit w.net w.streams w.script) (t : ℕ) (old :
       }
 
 -- the sends after what bridges handed on, however they ended
-module _ (left_laws : LeftLaws) (w : Scenario) (fit : AllFit w.net w.streams w.script) (t : ℕ) (old mid new : Progress) {T : Type 0} (net : Network) (r : Result T Halt) (a b c : Takes) (torn : Fails) where
-  pub entries_told : TellsPart net r b c torn (λ x fs. SendsPart w t mid new fs) (SendsFront w t mid) NoArrival → length old.lanes.items ≡ length w.net.arcs → (lost : ℕ) (es : History) → TellsAll net a b es
+module _ (left_laws : LeftLaws) (w : Scenario) (fit : AllFit w.net w.streams w.script) (t : ℕ) (old mid new : Progress) {T : Type 0} (net : Network) (r : Result T Halt) (a b c : Takes)
+    (torn : Fails) where
+  pub entries_told : TellsPart net r b c torn (λ x fs. SendsPart w t mid new fs) (SendsFront w t mid) NoArrival → length old.lanes.items ≡ length w.net.arcs → (lost : ℕ) (es : History)
+      → TellsAll net a b es
       → RelaysPart w t old.relay old.lanes.items mid.relay mid.lanes.items lost es → mid.sent ≡ old.sent → mid.dropped ≡ old.dropped + lost → mid.delivered ≡ old.delivered → mid.set ≡ old.set
       → TellsPart net r a c torn (λ x fs. EntriesPart w t old new fs) (EntriesFront w t old) NoArrival
   entries_told told many lost es before first sent dropped delivered set =

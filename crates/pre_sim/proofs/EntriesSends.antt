@@ -26,7 +26,8 @@ module _ (w : Scenario) (h : History) (t : ℕ) (entries : List Entry) (rise : (
   relays_are : (n : ℕ) → n ≤ length w.net.arcs → flat_map (λ a. filter_map (relayed w h t a) (Arrivals h a)) (below n) ≡ map coming_of (flat_map (dues_of_arc t entries) (turns.below n))
   relays_are zero le = refl
   relays_are (suc n) le =
-      let here : filter_map (relayed w h t n) (Arrivals h n) ≡ map coming_of (dues_of_arc t entries n) = relayed_are w h t n (of_arc n entries) (rise n (omega (arith, le))) (inside_at n (omega (arith, le))) in
+      let here : filter_map (relayed w h t n) (Arrivals h n) ≡ map coming_of (dues_of_arc t entries n) =
+      relayed_are w h t n (of_arc n entries) (rise n (omega (arith, le))) (inside_at n (omega (arith, le))) in
       let before = relays_are n (omega (arith, le)) in
       flat_more (λ a. filter_map (relayed w h t a) (Arrivals h a)) (below n) n
       ∙ ((λ i. before i ++ here i)

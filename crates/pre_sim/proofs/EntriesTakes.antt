@@ -112,7 +112,8 @@ module _ (w : Scenario) (t : ℕ) (relay : Relay) (old : List Lane) where
           sym (ap (map coming_of) (take_one k (all calls) e.0 e.1) ∙ (map-append coming_of (take k (all calls)) (e.0 ∷ []) ∙ ap (λ c. map coming_of (take k (all calls)) ++ c ∷ []) (sym same)))
 
       -- one more came out and came to its ring
-      pub one_taken : (now' : Relay) → StandsOn now now' t → (new : List Lane) (more : ℕ) (fs : History) → ComesPart w t (comes_to next.0 f ∷ []) mid new more fs → TakesPart w t relay now' old new (k + 1) (lost + more) (es ++ fs)
+      pub one_taken : (now' : Relay) → StandsOn now now' t → (new : List Lane) (more : ℕ) (fs : History) → ComesPart w t (comes_to next.0 f ∷ []) mid new more fs
+          → TakesPart w t relay now' old new (k + 1) (lost + more) (es ++ fs)
       one_taken now' on new more fs part = record {
         comes = λ calls stands.
             comes_same w t old new (map coming_of (take k (all calls)) ++ comes_to next.0 f ∷ []) (map coming_of (take (k + 1) (all calls))) (lost + more) (es ++ fs) (its_coming calls stands)
@@ -138,7 +139,8 @@ module _ (w : Scenario) (t : ℕ) (relay : Relay) (old : List Lane) where
     whole_part n now' calls0 stands0 on same few = record {
       deliveries = (so_far.comes calls0 stands0).deliveries;
       drops = (so_far.comes calls0 stands0).drops;
-      come = λ calls stands. comes_same w t old mid (map coming_of (take k (all calls))) (handed_on w t (inside w.net w.streams calls)) lost es (ap (map coming_of) (same calls stands)) (so_far.comes calls stands);
+      come = λ calls stands. comes_same w t old mid (map coming_of (take k (all calls))) (handed_on w t (inside w.net w.streams calls)) lost es (ap (map coming_of) (same calls stands))
+          (so_far.comes calls stands);
       left = λ calls stands. (n, on calls stands, few calls stands);
     }
 
@@ -148,9 +150,11 @@ module _ (w : Scenario) (t : ℕ) (relay : Relay) (old : List Lane) where
         whole_part k now calls0 stands0 so_far.stands (λ calls stands. ap (λ n. take n (all calls)) is) (λ calls stands. omega (arith, is))
 
     -- the next take gives none
-    pub no_more_taken : (calls : List Call) → Stands relay w.net w.streams calls → k < length w.net.arcs → (now' : Relay) → StandsOn now now' t → Gives now t None → RelaysPart w t relay old now' mid lost es
+    pub no_more_taken : (calls : List Call) → Stands relay w.net w.streams calls → k < length w.net.arcs → (now' : Relay) → StandsOn now now' t → Gives now t None
+        → RelaysPart w t relay old now' mid lost es
     no_more_taken calls0 stands0 lt now' on gives =
-        let none : (calls : List Call) → Stands relay w.net w.streams calls → slice_get (all calls) k ≡ None = λ calls stands. none_handed (slice_get (all calls) k) (given_at None gives calls stands) in
+        let none : (calls : List Call) → Stands relay w.net w.streams calls → slice_get (all calls) k ≡ None =
+        λ calls stands. none_handed (slice_get (all calls) k) (given_at None gives calls stands) in
         whole_part (k + 1) now' calls0 stands0 (stands_on now' on) (λ calls stands. take_no_more k (length w.net.arcs) (all calls) (none calls stands) (omega (arith, lt)))
         (λ calls stands. let few = few_at k (all calls) (none calls stands) in omega (arith, few))
 

@@ -42,11 +42,13 @@ waits_still h a p t begins entries =
 -- ---- the rule
 
 -- the event of a frame that comes to a ring with room
-pub enters : (w : Scenario) (t : ℕ) (h : History) (c : Coming) → length (Waiting h c.arc (row w c.frame).prio t) < capacity w c.arc (row w c.frame).prio → entry_event w t h c ≡ PlainEvent.enter (entry_for w t c)
+pub enters : (w : Scenario) (t : ℕ) (h : History) (c : Coming) → length (Waiting h c.arc (row w c.frame).prio t) < capacity w c.arc (row w c.frame).prio
+    → entry_event w t h c ≡ PlainEvent.enter (entry_for w t c)
 enters w t h c lt = rw (not_eq (length (Waiting h c.arc (row w c.frame).prio t)) (capacity w c.arc (row w c.frame).prio) (λ e. omega (arith, e, lt))) refl
 
 -- and to a full one
-pub drops : (w : Scenario) (t : ℕ) (h : History) (c : Coming) → length (Waiting h c.arc (row w c.frame).prio t) ≡ capacity w c.arc (row w c.frame).prio → entry_event w t h c ≡ PlainEvent.dropped (entry_for w t c)
+pub drops : (w : Scenario) (t : ℕ) (h : History) (c : Coming) → length (Waiting h c.arc (row w c.frame).prio t) ≡ capacity w c.arc (row w c.frame).prio
+    → entry_event w t h c ≡ PlainEvent.dropped (entry_for w t c)
 drops w t h c full = rw (is_eq (length (Waiting h c.arc (row w c.frame).prio t)) (capacity w c.arc (row w c.frame).prio) full) refl
 
 -- ---- the rings after a frame entered
@@ -72,7 +74,8 @@ with_room rings p n eight room = elim (cases_lt p 8) [
   | inr more ↦ let none : capacity_at rings p ≡ 0 = get_or_past rings.capacities p 0 (omega (arith, more, eight.1)) in absurd (omega (arith, none, room))
 ]
 
-numbers_push : (rings : Port) (f : FrameRef) (p : ℕ) → f.prio < length rings.frames → ring_numbers (with_frames rings f.prio (frames_at rings f.prio ++ f ∷ [])) p ≡ pushed f.prio f.frame.0 p (ring_numbers rings p)
+numbers_push : (rings : Port) (f : FrameRef) (p : ℕ) → f.prio < length rings.frames
+    → ring_numbers (with_frames rings f.prio (frames_at rings f.prio ++ f ∷ [])) p ≡ pushed f.prio f.frame.0 p (ring_numbers rings p)
 numbers_push rings f p lt = elim (cases_eq f.prio p) [
   | inl same ↦
       ap (λ q. ring_numbers (with_frames rings f.prio (frames_at rings f.prio ++ f ∷ [])) q) (sym same)
@@ -111,7 +114,8 @@ waits_came p f begun [] all = tt
 waits_came p f begun (e ∷ es) (here, more) = go (e.entered && not (begun e.frame)) (waits_came p f begun es more)
   where
     go : (b : Bool) → Every (λ (n : ℕ). n ≢ f) (still begun es)
-        → Every (λ (n : ℕ). n ≢ f) (map (λ (e : RingEntry). e.frame) (if b then e ∷ filter (λ (e : RingEntry). e.entered && not (begun e.frame)) es else filter (λ (e : RingEntry). e.entered && not (begun e.frame)) es))
+        → Every (λ (n : ℕ). n ≢ f) (map (λ (e : RingEntry). e.frame) (if b then e ∷ filter (λ (e : RingEntry). e.entered && not (begun e.frame)) es
+        else filter (λ (e : RingEntry). e.entered && not (begun e.frame)) es))
     go true rest = (here, rest)
     go false rest = rest
 
@@ -126,7 +130,8 @@ still_more h es a p begins =
     ap (λ (bs : List Begin). still (λ f. list_any (λ (x : Begin). what_is x.what f && (x.from == 0)) bs) (Entries (h ++ es) a p)) begins
     ∙ (ap (still (has_begun h a)) (filter_map-append (entry_on a p) h es)
     ∙ (ap (map (λ (e : RingEntry). e.frame)) (filter-append (λ (e : RingEntry). e.entered && not (has_begun h a e.frame)) (Entries h a p) (Entries es a p))
-    ∙ map-append (λ (e : RingEntry). e.frame) (filter (λ (e : RingEntry). e.entered && not (has_begun h a e.frame)) (Entries h a p)) (filter (λ (e : RingEntry). e.entered && not (has_begun h a e.frame)) (Entries es a p))))
+    ∙ map-append (λ (e : RingEntry). e.frame) (filter (λ (e : RingEntry). e.entered && not (has_begun h a e.frame)) (Entries h a p))
+    (filter (λ (e : RingEntry). e.entered && not (has_begun h a e.frame)) (Entries es a p))))
 
 -- an entry begins nothing
 pub entered_begins : (h : History) (e : Entry) (b : ℕ) → Begins (h ++ PlainEvent.enter e ∷ []) b ≡ Begins h b
@@ -136,7 +141,8 @@ pub dropped_begins : (h : History) (e : Entry) (b : ℕ) → Begins (h ++ PlainE
 dropped_begins h e b = filter_map-append (begin_on b) h (PlainEvent.dropped e ∷ []) ∙ append-nil (Begins h b)
 
 -- a frame that entered waits behind the others
-still_pushed : (h : History) (a p : ℕ) (e : Entry) → e.arc ≡ a → Every (λ (b : Begin). what_is b.what e.frame ≡ false) (Begins h a) → StillWaiting (h ++ PlainEvent.enter e ∷ []) a p ≡ pushed e.prio e.frame p (StillWaiting h a p)
+still_pushed : (h : History) (a p : ℕ) (e : Entry) → e.arc ≡ a → Every (λ (b : Begin). what_is b.what e.frame ≡ false) (Begins h a)
+    → StillWaiting (h ++ PlainEvent.enter e ∷ []) a p ≡ pushed e.prio e.frame p (StillWaiting h a p)
 still_pushed h a p e on unbegun = still_more h (PlainEvent.enter e ∷ []) a p (entered_begins h e a) ∙ ap (λ xs. StillWaiting h a p ++ xs) (new (e.prio == p) refl)
   where
     new : (b : Bool) → (e.prio == p) ≡ b → still (has_begun h a) (Entries (PlainEvent.enter e ∷ []) a p) ≡ (if b then e.frame ∷ [] else [])

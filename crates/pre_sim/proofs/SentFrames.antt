@@ -16,7 +16,8 @@ octets_taken v w same k size into all is long put =
     ap (take size) put ∙ (take_at (FrameOf v k) (drop size into) size its_length ∙ ap (λ (x : Scenario). FrameOf x k) same)
 
 -- in a slot, they are the frame of the send
-pub frame_is : (w : Scenario) (k size slot : ℕ) (r : Row) (store store' : Store) → k < length w.script.sends → r ≡ row w k → size ≡ (send w k).send.size → 64 ≤ size → IsStored store (FrameOf w k) slot store'
+pub frame_is : (w : Scenario) (k size slot : ℕ) (r : Row) (store store' : Store) → k < length w.script.sends → r ≡ row w k → size ≡ (send w k).send.size → 64 ≤ size
+    → IsStored store (FrameOf w k) slot store'
     → IsFrameOf w store' (record { slot = slot; frame = record { 0 = k }; size = size; prio = r.prio; vid = r.vid })
 frame_is w k size slot r store store' known is its_size long stored = record {
   known = known;

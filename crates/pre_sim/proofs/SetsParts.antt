@@ -102,7 +102,8 @@ past_tick a u x late = go (x.arc.0 == a)
     go true = no_le x.tick.0 u (omega (arith, late))
     go false = refl
 
-setting_is : (w : Scenario) (a u n : ℕ) → Every (λ (x : SetLine). x.tick.0 < suc u) (take n w.script.sets) → Every (λ (x : SetLine). suc u ≤ x.tick.0) (drop n w.script.sets) → SettingOf w a u ≡ set_on a (take n w.script.sets)
+setting_is : (w : Scenario) (a u n : ℕ) → Every (λ (x : SetLine). x.tick.0 < suc u) (take n w.script.sets) → Every (λ (x : SetLine). suc u ≤ x.tick.0) (drop n w.script.sets)
+    → SettingOf w a u ≡ set_on a (take n w.script.sets)
 setting_is w a u n early late =
     let test : SetLine → Bool = λ (x : SetLine). (x.arc.0 == a) && nat_le x.tick.0 u in
     let none : filter test (drop n w.script.sets) ≡ [] =
@@ -148,7 +149,8 @@ set_nothing lines lanes a lane at = (lane, at, record { rings = refl; outgoing =
 abbrev pub with_setting : Lane → Setting → Lane
 with_setting lane value = record { rings = lane.rings; outgoing = lane.outgoing; incoming = lane.incoming; partner = lane.partner; setting = value; link = lane.link }
 
-set_more : (old_lines lines : List SetLine) (x : SetLine) (old mid : List Lane) (lane : Lane) → slice_get mid x.arc.0 ≡ Some lane → AreSetBy old_lines lines old mid → AreSetBy old_lines (lines ++ x ∷ []) old (set mid x.arc.0 (with_setting lane x.value))
+set_more : (old_lines lines : List SetLine) (x : SetLine) (old mid : List Lane) (lane : Lane) → slice_get mid x.arc.0 ≡ Some lane → AreSetBy old_lines lines old mid
+    → AreSetBy old_lines (lines ++ x ∷ []) old (set mid x.arc.0 (with_setting lane x.value))
 set_more old_lines lines x old mid lane here so_far a l at = elim (cases_eq a x.arc.0) [
   | inl is ↦
       let before = so_far x.arc.0 lane here in
@@ -177,7 +179,8 @@ set_more old_lines lines x old mid lane here so_far a l at = elim (cases_eq a x.
       )
 ]
 
-pub set_next : (sets : List SetLine) (from n : ℕ) (x : SetLine) → slice_get sets n ≡ Some x → (old mid : List Lane) (i : ℕ) (lane : Lane) → i ≡ x.arc.0 → slice_get mid i ≡ Some lane → AreSetBy (take from sets) (take n sets) old mid
+pub set_next : (sets : List SetLine) (from n : ℕ) (x : SetLine) → slice_get sets n ≡ Some x → (old mid : List Lane) (i : ℕ) (lane : Lane) → i ≡ x.arc.0 → slice_get mid i ≡ Some lane
+    → AreSetBy (take from sets) (take n sets) old mid
     → AreSetBy (take from sets) (take (n + 1) sets) old (set mid i (with_setting lane x.value))
 set_next sets from n x at old mid i lane is here so_far =
     subst (λ xs. AreSetBy (take from sets) xs old (set mid i (with_setting lane x.value))) (sym (take_one n sets x at))
@@ -198,7 +201,8 @@ module _ (w : Scenario) (t : ℕ) where
   pub none_told : (from : ℕ) → AreTold from from [] []
   none_told from = record { reach = sym (append-nil (take from w.script.sets)); behind = omega arith; within = λ le. le; now = tt; events = refl }
 
-  pub more_told : (from n : ℕ) (lines : List SetLine) (es : History) (x : SetLine) → slice_get w.script.sets n ≡ Some x → x.tick.0 ≡ t → AreTold from n lines es → AreTold from (n + 1) (lines ++ x ∷ []) (es ++ event_of x ∷ [])
+  pub more_told : (from n : ℕ) (lines : List SetLine) (es : History) (x : SetLine) → slice_get w.script.sets n ≡ Some x → x.tick.0 ≡ t → AreTold from n lines es
+      → AreTold from (n + 1) (lines ++ x ∷ []) (es ++ event_of x ∷ [])
   more_told from n lines es x at now is =
       let lt : n < length w.script.sets = within w.script.sets n x at in
       record {
@@ -216,7 +220,8 @@ module _ (w : Scenario) (t : ℕ) where
       let test : SetLine → Bool = λ (x : SetLine). x.tick.0 == t in
       let first = take from w.script.sets in
       let rest = drop n w.script.sets in
-      let none : filter test first ≡ [] = filter_nil test first (every_weaker (λ (x : SetLine). x.tick.0 < t) (λ (x : SetLine). test x ≡ false) (λ x lt. not_eq x.tick.0 t (λ e. absurd (omega (arith, lt, e)))) first past) in
+      let none : filter test first ≡ [] = filter_nil test first (every_weaker (λ (x : SetLine). x.tick.0 < t) (λ (x : SetLine). test x ≡ false)
+      (λ x lt. not_eq x.tick.0 t (λ e. absurd (omega (arith, lt, e)))) first past) in
       let split : w.script.sets ≡ (first ++ lines) ++ rest = sym (take-append-drop n w.script.sets) ∙ ap (λ xs. xs ++ rest) is.reach in
       let chosen : filter test w.script.sets ≡ lines ++ filter test rest =
       ap (filter test) split
@@ -306,7 +311,8 @@ module _ (w : Scenario) (t : ℕ) (h : History) (legal : LegalAt w t 0 h) where
       let a_lt : a < A = omega (arith, within new a lane at, many) in
       let was = by a lane at in
       let old_stands : LaneStands w h a (untouched t) was.0 (of_arc a entries) = stand a was.0 was.1 in
-      let s = stays w t Phase.sets h es a a_lt refl legal.0 (sets_happen w t h es is) (omega arith) (omega arith) (omega arith) (omega arith) (omega arith) (untouched t) was.0 (of_arc a entries) (λ i lt. before A i t 0 lt) old_stands in
+      let s = stays w t Phase.sets h es a a_lt refl legal.0 (sets_happen w t h es is) (omega arith) (omega arith) (omega arith) (omega arith) (omega arith) (untouched t) was.0 (of_arc a entries)
+      (λ i lt. before A i t 0 lt) old_stands in
       let set_now : lane.setting ≡ SettingOf w a t =
       was.2.setting (old_stands.setting ∙ setting_before w h a t from before_it) ∙ sym (setting_now w h a t n after_it) in
       subst (λ (x : Stage). LaneStands w (h ++ es) a x lane (of_arc a entries)) (sym (is_set_up A t 1 a (omega arith) (omega arith))) (record {
@@ -319,7 +325,8 @@ module _ (w : Scenario) (t : ℕ) (h : History) (legal : LegalAt w t 0 h) where
         inside = s.inside;
       })
 
-module _ (w : Scenario) (fit : AllFit w.net w.streams w.script) (t : ℕ) (from n : ℕ) (lines : List SetLine) (es : History) (told : AreTold w t from n lines es) (before_it : AreSetBefore w t from) where
+module _ (w : Scenario) (fit : AllFit w.net w.streams w.script) (t : ℕ) (from n : ℕ) (lines : List SetLine) (es : History) (told : AreTold w t from n lines es)
+    (before_it : AreSetBefore w t from) where
   -- with more of them it is what happens
   pub sets_front : (h : History) → LegalAt w t 0 h → IsFront w (h ++ es)
   sets_front h legal =
@@ -361,16 +368,20 @@ module _ (w : Scenario) (fit : AllFit w.net w.streams w.script) (t : ℕ) (from 
     all_told =
         let test : SetLine → Bool = λ (x : SetLine). x.tick.0 == t in
         let none : filter test (drop n w.script.sets) ≡ [] =
-        filter_nil test (drop n w.script.sets) (every_weaker (λ (x : SetLine). t + 1 ≤ x.tick.0) (λ (x : SetLine). test x ≡ false) (λ x lt. not_eq x.tick.0 t (λ e. absurd (omega (arith, lt, e)))) (drop n w.script.sets) after_it.later) in
+        filter_nil test (drop n w.script.sets) (every_weaker (λ (x : SetLine). t + 1 ≤ x.tick.0) (λ (x : SetLine). test x ≡ false) (λ x lt. not_eq x.tick.0 t (λ e. absurd (omega (arith, lt, e))))
+        (drop n w.script.sets) after_it.later) in
         sym (sets_are w t from n lines es before_it.past told ∙ (ap (λ xs. es ++ map event_of xs) none ∙ append-nil es))
 
-    pub sets_legal : (h : History) (entries : List Entry) (old new : List Lane) → length new ≡ length w.net.arcs → AreSetBy (take from w.script.sets) (take n w.script.sets) old new → LegalAt w t 0 h → LanesStand w h t 0 old entries
+    pub sets_legal : (h : History) (entries : List Entry) (old new : List Lane) → length new ≡ length w.net.arcs → AreSetBy (take from w.script.sets) (take n w.script.sets) old new
+        → LegalAt w t 0 h → LanesStand w h t 0 old entries
         → LegalAt w t 1 (h ++ es) × LanesStand w (h ++ es) t 1 new entries × AreSetBefore w (t + 1) n
     sets_legal h entries old new many by legal stand = (legal_on w t h legal es all_told, lanes_set w t h legal es all_told from n old new entries many before_it after_it by stand, after_it)
 
 -- the whole part
-pub sets_part : (w : Scenario) → AllFit w.net w.streams w.script → (t : ℕ) (old new : Progress) (es : History) (lines : List SetLine) → AreTold w t old.set new.set lines es → length new.lanes.items ≡ length w.net.arcs
-    → AreSetBy (take old.set w.script.sets) (take new.set w.script.sets) old.lanes.items new.lanes.items → ((entries : List Entry) → Keeps w old.store old.lanes.items entries [] → Keeps w old.store new.lanes.items entries [])
+pub sets_part : (w : Scenario) → AllFit w.net w.streams w.script → (t : ℕ) (old new : Progress) (es : History) (lines : List SetLine) → AreTold w t old.set new.set lines es
+    → length new.lanes.items ≡ length w.net.arcs
+    → AreSetBy (take old.set w.script.sets) (take new.set w.script.sets) old.lanes.items new.lanes.items
+    → ((entries : List Entry) → Keeps w old.store old.lanes.items entries [] → Keeps w old.store new.lanes.items entries [])
     → (new.relay ≡ old.relay) × (new.store ≡ old.store) × (new.sent ≡ old.sent) × (new.delivered ≡ old.delivered) × (new.dropped ≡ old.dropped)
     → ((x : SetLine) → slice_get w.script.sets new.set ≡ Some x → x.tick.0 ≢ t) → SetsPart w t old new es
 sets_part w fit t old new es lines told many by keeps kept over = record {
@@ -382,6 +393,7 @@ sets_part w fit t old new es lines told many by keeps kept over = record {
 }
 
 -- a lane with another setting keeps what it kept
-pub keeps_set : (w : Scenario) (store : Store) (lanes : List Lane) (a : ℕ) (lane : Lane) (value : Setting) (entries : List Entry) → slice_get lanes a ≡ Some lane → Keeps w store lanes entries [] → Keeps w store (set lanes a (with_setting lane value)) entries []
+pub keeps_set : (w : Scenario) (store : Store) (lanes : List Lane) (a : ℕ) (lane : Lane) (value : Setting) (entries : List Entry) → slice_get lanes a ≡ Some lane → Keeps w store lanes entries []
+    → Keeps w store (set lanes a (with_setting lane value)) entries []
 keeps_set w store lanes a lane value entries at keeps =
     subst (λ xs. Keeps w store (set lanes a (with_setting lane value)) xs []) (append-nil entries) (keep_lane w a store lane (with_setting lane value) refl refl lanes entries at keeps)

@@ -10,7 +10,8 @@ use Rattle.pre_sim.proofs.closing.close.Goals as goal
 pub returns-in_err-counts-clause-part : goal.returns-in_err-counts-clause-part
 returns-in_err-counts-clause-part g c =
     let w : Scenario = scenario_of c.args.plan.now in
-    then_front c.args.plan.now.net.now c.counts.result c.from_residual.result (g.W.Watcher.took c.args.watcher.now) (g.W.Watcher.took c.args.watcher.now) (g.W.Watcher.took c.counts.new.watcher) (g.W.Watcher.torn c.counts.new.watcher) []
+    then_front c.args.plan.now.net.now c.counts.result c.from_residual.result (g.W.Watcher.took c.args.watcher.now) (g.W.Watcher.took c.args.watcher.now) (g.W.Watcher.took c.counts.new.watcher)
+    (g.W.Watcher.torn c.counts.new.watcher) []
     _ (CountsFront w c.args.progress.now) _ _ _
     (tells_nothing c.args.plan.now.net.now (g.W.Watcher.took c.args.watcher.now)) c.counts.ensures.part
     (λ es front. counts_front w c.args.progress.now c.requires.until es front)
@@ -27,6 +28,7 @@ returns-clause-part g c =
     then_part net c.tell.result (g.W.Watcher.took c.args.watcher.now) (g.W.Watcher.took c.counts.new.watcher) (g.W.Watcher.took c.tell.new.watcher) (g.W.Watcher.torn c.tell.new.watcher) first.0
     (λ x es. es ≡ end_event w p ∷ []) _ (λ es. es ≡ end_event w p ∷ []) _ _
     first.1
-    (part_of_one net c.tell.result (g.W.Watcher.took c.counts.new.watcher) (g.W.Watcher.took c.tell.new.watcher) (g.W.Watcher.torn c.tell.new.watcher) (end_event w p) (λ x es. es ≡ end_event w p ∷ []) (λ es. es ≡ end_event w p ∷ []) _ told (λ x. refl) refl)
+    (part_of_one net c.tell.result (g.W.Watcher.took c.counts.new.watcher) (g.W.Watcher.took c.tell.new.watcher) (g.W.Watcher.torn c.tell.new.watcher) (end_event w p)
+    (λ x es. es ≡ end_event w p ∷ []) (λ es. es ≡ end_event w p ∷ []) _ told (λ x. refl) refl)
     (λ x es is. subst (λ gs. ClosesPart w p (first.0 ++ gs)) (sym is) (closes w p c.requires.until first.0 first.2))
     (λ es is. subst (λ gs. ClosesFront w p (first.0 ++ gs)) (sym is) (end_front w p c.requires.until first.0 first.2))

@@ -22,7 +22,8 @@ returns-in_err-tell_counts-clause-part g c =
     let p = c.args.progress.now in
     let before = c.loop-arc.invariant.part in
     let here : slice_get p.lanes.items c.loop-arc.arc ≡ Some c.index.result.now = found_at p.lanes.items c.loop-arc.arc c.index.result.now (search rules) (sym c.index.ensures) in
-    then_front c.args.plan.now.net.now c.tell_counts.result c.from_residual.result (g.W.Watcher.took c.args.watcher.now) (g.W.Watcher.took c.loop-arc.watcher) (g.W.Watcher.took c.tell_counts.new.watcher) (g.W.Watcher.torn c.tell_counts.new.watcher) before.0
+    then_front c.args.plan.now.net.now c.tell_counts.result c.from_residual.result (g.W.Watcher.took c.args.watcher.now) (g.W.Watcher.took c.loop-arc.watcher)
+    (g.W.Watcher.took c.tell_counts.new.watcher) (g.W.Watcher.torn c.tell_counts.new.watcher) before.0
     _ (TellsCounts c.loop-arc.arc c.index.result.now) _ _ _
     before.1 c.tell_counts.ensures.part
     (λ fs front. one_more_front w p c.requires.until c.loop-arc.arc c.index.result.now here (search rules) before.0 fs before.2 front)

@@ -26,10 +26,11 @@ returns-clause-part g c =
     let new : Lane = record { rings = c.enter.new.rings; outgoing = lane.outgoing; incoming = lane.incoming; partner = lane.partner; setting = lane.setting; link = lane.link } in
     let right = c.requires.keeps.1.each_moving.0 in
     let lane_keeps = c.requires.keeps.1.each_lane a lane here in
-    then_part c.args.plan.now.net.now c.enter.result (g.W.Watcher.took c.args.watcher.now) (g.W.Watcher.took c.args.watcher.now) (g.W.Watcher.took c.enter.new.watcher) (g.W.Watcher.torn c.enter.new.watcher) []
+    then_part c.args.plan.now.net.now c.enter.result (g.W.Watcher.took c.args.watcher.now) (g.W.Watcher.took c.args.watcher.now) (g.W.Watcher.took c.enter.new.watcher)
+    (g.W.Watcher.torn c.enter.new.watcher) []
     (RingTells c.args.now.0 a c.args.frame c.args.store.now c.enter.new.store lane.rings c.enter.new.rings) _
     (RingFront c.args.now.0 a c.args.frame c.args.store.now lane.rings) _ NoArrival
     (tells_nothing c.args.plan.now.net.now (g.W.Watcher.took c.args.watcher.now)) c.enter.ensures.part
     (λ entered es told. come_part w c.args.now.0 a c.args.frame c.args.store.now c.args.lanes.now lane here right lane_keeps c.requires.over c.enter.new.store new entered es
-        (record { outgoing = refl; incoming = refl; partner = refl; setting = refl; link = refl }) told)
+    (record { outgoing = refl; incoming = refl; partner = refl; setting = refl; link = refl }) told)
     (λ es front. come_front w c.args.now.0 a c.args.frame c.args.store.now c.args.lanes.now lane here right lane_keeps es front)

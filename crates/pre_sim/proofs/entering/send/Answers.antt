@@ -25,7 +25,8 @@ come-requires-clause-keeps g c =
 pub come-requires-clause-over : goal.come-requires-clause-over
 come-requires-clause-over g c =
     let w = scenario_of c.args.plan.now in
-    goes_first w (is_routed w c.requires.fit.streams_fit c.requires.fit.script_fits) c.args.number c.first_arc-arc.result.0 c.in_ok-frame.frame.frame c.requires.known c.first_arc-arc.ensures.first c.in_ok-frame.ensures.number
+    goes_first w (is_routed w c.requires.fit.streams_fit c.requires.fit.script_fits) c.args.number c.first_arc-arc.result.0 c.in_ok-frame.frame.frame c.requires.known
+    c.first_arc-arc.ensures.first c.in_ok-frame.ensures.number
 
 pub returns-clause-keeps : goal.returns-clause-keeps
 returns-clause-keeps g c =
@@ -35,7 +36,8 @@ returns-clause-keeps g c =
     (λ entered es. ComePart w c.args.now.0 c.first_arc-arc.result.0 f c.frame_of.new.store c.come.new.store c.args.lanes.now c.come.new.lanes entered es)
     (ComesFront w c.args.now.0 (comes_to c.first_arc-arc.result.0 f ∷ []) c.args.lanes.now) NoArrival _
     c.come.ensures.part
-    (λ entered es part entries keeps. part.keeps entries (keep_sent w f (FrameOf w c.args.number) c.args.store.now c.frame_of.new.store c.args.lanes.now entries c.in_ok-frame.ensures.frame c.in_ok-frame.ensures.stored keeps))
+    (λ entered es part entries keeps. part.keeps entries (keep_sent w f
+    (FrameOf w c.args.number) c.args.store.now c.frame_of.new.store c.args.lanes.now entries c.in_ok-frame.ensures.frame c.in_ok-frame.ensures.stored keeps))
 
 pub returns-clause-part : goal.returns-clause-part
 returns-clause-part g c =
@@ -44,7 +46,8 @@ returns-clause-part g c =
     let a = c.first_arc-arc.result.0 in
     let f = c.in_ok-frame.frame in
     let is : comes_to a f ∷ [] ≡ sent_frame w c.args.number ∷ [] = λ i. record { arc = c.first_arc-arc.ensures.first i; frame = c.in_ok-frame.ensures.number i } ∷ [] in
-    then_part c.args.plan.now.net.now c.come.result (g.W.Watcher.took c.args.watcher.now) (g.W.Watcher.took c.args.watcher.now) (g.W.Watcher.took c.come.new.watcher) (g.W.Watcher.torn c.come.new.watcher) []
+    then_part c.args.plan.now.net.now c.come.result (g.W.Watcher.took c.args.watcher.now) (g.W.Watcher.took c.args.watcher.now) (g.W.Watcher.took c.come.new.watcher)
+    (g.W.Watcher.torn c.come.new.watcher) []
     (λ entered es. ComePart w t a f c.frame_of.new.store c.come.new.store c.args.lanes.now c.come.new.lanes entered es) _
     (ComesFront w t (comes_to a f ∷ []) c.args.lanes.now) _ NoArrival
     (tells_nothing c.args.plan.now.net.now (g.W.Watcher.took c.args.watcher.now)) c.come.ensures.part

@@ -15,10 +15,12 @@ use Rattle.pre_sim.proofs.Lists.{written}
 pub returns-in_err-lost-clause-part : goal.returns-in_err-lost-clause-part
 returns-in_err-lost-clause-part g c =
     let w = scenario_of c.args.plan.now in
-    then_front c.args.plan.now.net.now c.relays.result c.from_residual.result (g.W.Watcher.took c.args.watcher.now) (g.W.Watcher.took c.args.watcher.now) (g.W.Watcher.took c.relays.new.watcher) (g.W.Watcher.torn c.relays.new.watcher) []
+    then_front c.args.plan.now.net.now c.relays.result c.from_residual.result (g.W.Watcher.took c.args.watcher.now) (g.W.Watcher.took c.args.watcher.now) (g.W.Watcher.took c.relays.new.watcher)
+    (g.W.Watcher.torn c.relays.new.watcher) []
     _ (RelaysFront w c.args.now.0 c.args.progress.now.relay c.deref_mut.result.now) _ _ _
     (tells_nothing c.args.plan.now.net.now (g.W.Watcher.took c.args.watcher.now)) c.relays.ensures.part
-    (λ es front. relays_front w c.requires.fit c.args.now.0 c.args.progress.now (search rules) es (subst (λ (ls : List Lane). RelaysFront w c.args.now.0 c.args.progress.now.relay ls es) c.deref_mut.ensures.value front))
+    (λ es front. relays_front w c.requires.fit c.args.now.0 c.args.progress.now (search rules) es
+    (subst (λ (ls : List Lane). RelaysFront w c.args.now.0 c.args.progress.now.relay ls es) c.deref_mut.ensures.value front))
     c.in_err-lost.field-0.0 c.in_err-lost.was (search rules)
 
 pub returns-clause-part : goal.returns-clause-part
@@ -32,7 +34,8 @@ returns-clause-part g c =
     let part : RelaysPart w t c.args.progress.now.relay c.args.progress.now.lanes.items c.relays.new.relay c.relays.new.lanes c.in_ok-lost.lost first.0 =
     subst (λ (ls : List Lane). RelaysPart w t c.args.progress.now.relay ls c.relays.new.relay c.relays.new.lanes c.in_ok-lost.lost first.0) c.deref_mut.ensures.value first.2 in
     let told = subst (λ (ls : List Lane). RelaysPart w t c.args.progress.now.relay c.args.progress.now.lanes.items c.relays.new.relay ls c.in_ok-lost.lost first.0) (sym back) part in
-    entries_told left_laws w c.requires.fit t c.args.progress.now _ c.sends.new.progress c.args.plan.now.net.now c.sends.result (g.W.Watcher.took c.args.watcher.now) (g.W.Watcher.took c.relays.new.watcher) (g.W.Watcher.took c.sends.new.watcher) (g.W.Watcher.torn c.sends.new.watcher)
+    entries_told left_laws w c.requires.fit t c.args.progress.now _ c.sends.new.progress c.args.plan.now.net.now c.sends.result (g.W.Watcher.took c.args.watcher.now)
+    (g.W.Watcher.took c.relays.new.watcher) (g.W.Watcher.took c.sends.new.watcher) (g.W.Watcher.torn c.sends.new.watcher)
     c.sends.ensures.part many c.in_ok-lost.lost first.0 first.1 told refl refl refl refl
 
 pub relays-requires-clause-kept : goal.relays-requires-clause-kept

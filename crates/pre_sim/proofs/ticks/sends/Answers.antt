@@ -15,7 +15,16 @@ use Rattle.pre_sim.proofs.Lists.{written}
 
 pub loop-progress-init : goal.loop-progress-init
 loop-progress-init g c = record {
-  part = ([], 0, 0, tells_nothing c.args.plan.now.net.now (g.W.Watcher.took c.args.watcher.now), none_come (scenario_of c.args.plan.now) c.args.now.0 c.args.progress.now.lanes.items, search rules, search rules);
+  part = (
+    [],
+    0,
+    0,
+    tells_nothing c.args.plan.now.net.now (g.W.Watcher.took c.args.watcher.now),
+    none_come
+        (scenario_of c.args.plan.now) c.args.now.0 c.args.progress.now.lanes.items,
+    search rules,
+    search rules,
+  );
   this_tick = λ k le lt. absurd (omega (arith, le, lt));
   known = λ le. le;
   lanes = search rules;
@@ -44,14 +53,16 @@ loop-progress-preserved g c =
     let lanes = written c.loop-progress.progress.lanes.len c.loop-progress.progress.lanes.items c.send.new.lanes (c.send.auto.lanes ∙ ap length c.deref_mut.ensures.value) (search rules) in
     let drops : c.from.result ≡ drops_of c.in_ok-entered.entered = more_drops c.in_ok-entered.entered c.from.result (λ e. search (rules, e)) (λ e. search (rules, e)) in
     let one : c.from.result ≤ 1 = search rules in
-    let all = one_more_send w t c.args.progress.now.sent c.args.progress.now.lanes.items before.1 c.loop-progress.progress.lanes.items before.2 before.0 k before.5 before.4 c.send.new.lanes (drops_of c.in_ok-entered.entered) now.0 part in
+    let all = one_more_send w t c.args.progress.now.sent c.args.progress.now.lanes.items before.1 c.loop-progress.progress.lanes.items before.2 before.0 k before.5 before.4 c.send.new.lanes
+    (drops_of c.in_ok-entered.entered) now.0 part in
     record {
       part = (
         before.0 ++ now.0,
         before.1 + 1,
         before.2 + drops_of c.in_ok-entered.entered,
         tells_then c.args.plan.now.net.now (g.W.Watcher.took c.args.watcher.now) (g.W.Watcher.took c.loop-progress.watcher) (g.W.Watcher.took c.send.new.watcher) before.0 now.0 before.3 now.1,
-        subst (λ (ls : List Lane). ComesPart w t (sent_frames w c.args.progress.now.sent (before.1 + 1)) c.args.progress.now.lanes.items ls (before.2 + drops_of c.in_ok-entered.entered) (before.0 ++ now.0)) (sym lanes) all,
+        subst (λ (ls : List Lane). ComesPart w t (sent_frames w c.args.progress.now.sent (before.1 + 1)) c.args.progress.now.lanes.items ls (before.2 + drops_of c.in_ok-entered.entered)
+            (before.0 ++ now.0)) (sym lanes) all,
         omega (arith, before.5),
         sums_up c.loop-progress.progress.dropped c.args.progress.now.dropped before.2 c.from.result (drops_of c.in_ok-entered.entered) before.6 drops,
       );
@@ -61,7 +72,8 @@ loop-progress-preserved g c =
       counts = record { sent = omega (arith, here, few); dropped = let was = c.loop-progress.invariant.counts.dropped in omega (arith, was, one) };
       set = search rules;
       links = links_then c.args.progress.now.lanes.items c.loop-progress.progress.lanes.items _ c.loop-progress.invariant.links
-          (subst (λ (ls : List Lane). SameLinks c.loop-progress.progress.lanes.items ls) (sym lanes) (subst (λ (ls : List Lane). SameLinks ls c.send.new.lanes) c.deref_mut.ensures.value c.in_ok-entered.ensures.links));
+          (subst (λ (ls : List Lane). SameLinks c.loop-progress.progress.lanes.items ls) (sym lanes)
+          (subst (λ (ls : List Lane). SameLinks ls c.send.new.lanes) c.deref_mut.ensures.value c.in_ok-entered.ensures.links));
       delivered = search rules;
       relay = search rules;
       kept = kept_on w t c.loop-progress.progress _ c.send.new.lanes c.loop-progress.invariant.kept refl lanes
@@ -79,7 +91,8 @@ returns-in_err-entered-clause-part g c =
     let here : k < length w.script.sends = subst (λ (ls : List SendLine). k < length ls) c.as_slice-lines.ensures c.loop-progress-test.true in
     let tick : (send w k).send.tick.0 ≡ t = is_now w t k c.as_slice-lines.result.now c.as_slice-lines.ensures c.if-eq.ensures in
     let reach : c.args.progress.now.sent + (before.1 + 1) ≡ k + 1 = omega (arith, before.5) in
-    then_front c.args.plan.now.net.now c.send.result c.from_residual.result (g.W.Watcher.took c.args.watcher.now) (g.W.Watcher.took c.loop-progress.watcher) (g.W.Watcher.took c.send.new.watcher) (g.W.Watcher.torn c.send.new.watcher) before.0
+    then_front c.args.plan.now.net.now c.send.result c.from_residual.result (g.W.Watcher.took c.args.watcher.now) (g.W.Watcher.took c.loop-progress.watcher) (g.W.Watcher.took c.send.new.watcher)
+    (g.W.Watcher.torn c.send.new.watcher) before.0
     (λ entered es. ComesPart w t (sent_frame w k ∷ []) c.deref_mut.result.now c.send.new.lanes (drops_of entered) es) (ComesFront w t (sent_frame w k ∷ []) c.deref_mut.result.now) _ _ _
     before.3 c.send.ensures.part
     (λ fs front. sends_front w t c.args.progress.now (before.1 + 1) (before.0 ++ fs) (omega (arith, reach, here))

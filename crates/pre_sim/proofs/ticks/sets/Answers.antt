@@ -34,11 +34,13 @@ loop-progress-init g c =
 
 pub index_mut-requires : goal.index_mut-requires
 index_mut-requires g c =
-    let known = line_known c.args.plan.now.net.now c.as_slice-lines.result.now c.args.plan.now.script.now.sets c.as_slice-lines.ensures c.requires.fit.script_fits.sets c.loop-progress.progress.set c.loop-progress-test.true in
+    let known = line_known c.args.plan.now.net.now c.as_slice-lines.result.now c.args.plan.now.script.now.sets c.as_slice-lines.ensures c.requires.fit.script_fits.sets
+    c.loop-progress.progress.set c.loop-progress-test.true in
     omega (arith, known, c.from.ensures, c.loop-progress.invariant.lanes)
 
 pub tell-requires-clause-known : goal.tell-requires-clause-known
-tell-requires-clause-known g c = line_known c.args.plan.now.net.now c.as_slice-lines.result.now c.args.plan.now.script.now.sets c.as_slice-lines.ensures c.requires.fit.script_fits.sets c.loop-progress.progress.set c.loop-progress-test.true
+tell-requires-clause-known g c = line_known c.args.plan.now.net.now c.as_slice-lines.result.now c.args.plan.now.script.now.sets c.as_slice-lines.ensures c.requires.fit.script_fits.sets
+    c.loop-progress.progress.set c.loop-progress-test.true
 
 pub returns-in_err-tell-clause-links : goal.returns-in_err-tell-clause-links
 returns-in_err-tell-clause-links g c =
@@ -94,14 +96,17 @@ returns-in_err-tell-clause-part g c =
     let at : slice_get w.script.sets k ≡ Some x = line_at lines w.script.sets c.as_slice-lines.ensures k c.loop-progress-test.true in
     let now : x.tick.0 ≡ t = same_number x.tick.0 t (sym c.if-eq.ensures) in
     let before = c.loop-progress.invariant.part in
-    let told = subst (λ m. TellsOne net c.tell.result (g.W.Watcher.took c.loop-progress.watcher) (g.W.Watcher.took c.tell.new.watcher) (g.W.Watcher.torn c.tell.new.watcher) (PlainEvent.set m x.arc.0 x.value)) (sym now) c.tell.ensures.one in
+    let told = subst (λ m. TellsOne net c.tell.result (g.W.Watcher.took c.loop-progress.watcher) (g.W.Watcher.took c.tell.new.watcher) (g.W.Watcher.torn c.tell.new.watcher)
+    (PlainEvent.set m x.arc.0 x.value)) (sym now) c.tell.ensures.one in
     let more = more_told w t c.args.progress.now.set k before.1 before.0 x at now before.3 in
     let front : SetsFront w t c.args.progress.now (before.0 ++ event_of x ∷ []) =
     λ h entries legal stand set_before. sets_front w c.requires.fit t c.args.progress.now.set (k + 1) (before.1 ++ x ∷ []) (before.0 ++ event_of x ∷ []) more set_before h legal in
-    then_front net c.tell.result c.from_residual.result (g.W.Watcher.took c.args.watcher.now) (g.W.Watcher.took c.loop-progress.watcher) (g.W.Watcher.took c.tell.new.watcher) (g.W.Watcher.torn c.tell.new.watcher) before.0
+    then_front net c.tell.result c.from_residual.result (g.W.Watcher.took c.args.watcher.now) (g.W.Watcher.took c.loop-progress.watcher) (g.W.Watcher.took c.tell.new.watcher)
+    (g.W.Watcher.torn c.tell.new.watcher) before.0
     (λ y es. Unit {0}) (λ es. es ≡ event_of x ∷ []) _ _ _
     before.2
-    (part_of_one net c.tell.result (g.W.Watcher.took c.loop-progress.watcher) (g.W.Watcher.took c.tell.new.watcher) (g.W.Watcher.torn c.tell.new.watcher) (event_of x) (λ y es. Unit {0}) (λ es. es ≡ event_of x ∷ []) NoArrival told (λ y. tt) refl)
+    (part_of_one net c.tell.result (g.W.Watcher.took c.loop-progress.watcher) (g.W.Watcher.took c.tell.new.watcher) (g.W.Watcher.torn c.tell.new.watcher) (event_of x) (λ y es. Unit {0})
+    (λ es. es ≡ event_of x ∷ []) NoArrival told (λ y. tt) refl)
     (λ es is. subst (λ gs. SetsFront w t c.args.progress.now (before.0 ++ gs)) (sym is) front)
     c.in_err-tell.field-0.0 c.in_err-tell.was (search rules)
 
@@ -113,9 +118,12 @@ returns-else-eq-clause-part g c =
     let lines = c.as_slice-lines.result.now in
     let so_far = c.loop-progress.invariant in
     let other : (slice_index_or lines k no_set).tick.0 ≢ t = other_number (slice_index_or lines k no_set).tick.0 t (sym c.if-eq.ensures) in
-    let part = so_far.part in
-    (part.0, part.2, sets_part w c.requires.fit t c.args.progress.now c.loop-progress.progress part.0 part.1 part.3 (search rules) so_far.by so_far.keeps
-        (so_far.relay, so_far.store, so_far.sent, so_far.delivered, so_far.dropped) (over_at lines w.script.sets t k c.as_slice-lines.ensures other))
+    let part = so_far.part in (
+      part.0,
+      part.2,
+      sets_part w c.requires.fit t c.args.progress.now c.loop-progress.progress part.0 part.1 part.3 (search rules) so_far.by so_far.keeps
+          (so_far.relay, so_far.store, so_far.sent, so_far.delivered, so_far.dropped) (over_at lines w.script.sets t k c.as_slice-lines.ensures other),
+    )
 
 pub returns-after-loop-progress-clause-part : goal.returns-after-loop-progress-clause-part
 returns-after-loop-progress-clause-part g c =
@@ -124,6 +132,9 @@ returns-after-loop-progress-clause-part g c =
     let k = c.loop-progress.progress.set in
     let lines = c.as_slice-lines.result.now in
     let so_far = c.loop-progress.invariant in
-    let part = so_far.part in
-    (part.0, part.2, sets_part w c.requires.fit t c.args.progress.now c.loop-progress.progress part.0 part.1 part.3 (search rules) so_far.by so_far.keeps
-        (so_far.relay, so_far.store, so_far.sent, so_far.delivered, so_far.dropped) (over_end lines w.script.sets t k c.as_slice-lines.ensures c.loop-progress-test.false))
+    let part = so_far.part in (
+      part.0,
+      part.2,
+      sets_part w c.requires.fit t c.args.progress.now c.loop-progress.progress part.0 part.1 part.3 (search rules) so_far.by so_far.keeps
+          (so_far.relay, so_far.store, so_far.sent, so_far.delivered, so_far.dropped) (over_end lines w.script.sets t k c.as_slice-lines.ensures c.loop-progress-test.false),
+    )

@@ -10,9 +10,11 @@ use Rattle.pre_sim.proofs.ticks.sets.Given as goal
 
 abbrev pub invariant-loop-progress : goal.invariant-loop-progress
 invariant-loop-progress g l = record {
-  part : (es : History) × (lines : List SetLine) × TellsAll l.plan.net.now (g.W.Watcher.took l.fn.watcher) (g.W.Watcher.took l.watcher) es × AreTold (scenario_of l.plan) l.now.0 l.fn.progress.set l.progress.set lines es;
+  part : (es : History) × (lines : List SetLine) × TellsAll l.plan.net.now (g.W.Watcher.took l.fn.watcher) (g.W.Watcher.took l.watcher) es
+      × AreTold (scenario_of l.plan) l.now.0 l.fn.progress.set l.progress.set lines es;
   by : AreSetBy (take l.fn.progress.set l.plan.script.now.sets) (take l.progress.set l.plan.script.now.sets) l.fn.progress.lanes.items l.progress.lanes.items;
-  keeps : (entries : List Entry) → Keeps (scenario_of l.plan) l.fn.progress.store l.fn.progress.lanes.items entries [] → Keeps (scenario_of l.plan) l.fn.progress.store l.progress.lanes.items entries [];
+  keeps : (entries : List Entry) → Keeps (scenario_of l.plan) l.fn.progress.store l.fn.progress.lanes.items entries []
+      → Keeps (scenario_of l.plan) l.fn.progress.store l.progress.lanes.items entries [];
   lanes : vec_len l.progress.lanes ≡ length l.plan.net.now.arcs;
   links : SameLinks l.fn.progress.lanes.items l.progress.lanes.items;
   relay : l.progress.relay ≡ l.fn.progress.relay;
