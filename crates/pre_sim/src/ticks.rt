@@ -46,6 +46,7 @@ fn sets<W: Watcher>(
     requires fit { AllFit plan.now.net.now plan.now.streams.now plan.now.script.now }
     requires lanes { vec_len progress.old.lanes ≡ length plan.now.net.now.arcs }
     ensures lanes { vec_len progress.new.lanes ≡ length plan.now.net.now.arcs }
+    ensures counts { (progress.new.sent ≡ progress.old.sent) × (progress.new.dropped ≡ progress.old.dropped) }
     ensures links { SameLinks progress.old.lanes.items progress.new.lanes.items }
     ensures part { TellsPart plan.now.net.now result (W.took watcher.old) (W.took watcher.new) (W.torn watcher.new) (λ x es. SetsPart (scenario_of plan.now) now.0 progress.old progress.new es) (SetsFront (scenario_of plan.now) now.0 progress.old) NoArrival }
     ensures cause { HasCause (W.faults watcher.old) (W.faults watcher.new) result }
