@@ -24,7 +24,7 @@ use Rattle.pre_links.proofs.Phases.{still_hears, still_stands}
 use Rattle.pre_outgoing.proofs.Keeping.{other_events}
 use Rattle.pre_incoming.proofs.OnAir.{others_stay}
 use Rattle.pre_sim.specs.declared.lanes.Lane.{Lane}
-use Rattle.pre_sim.specs.Stages.{Stage, untouched, set_up, settled, entering, entered, stage_at, setting_at, turn_at, is_calm, tick_at, link_turn}
+use Rattle.pre_sim.specs.Stages.{Stage, untouched, set_up, settled, entered, stage_at, setting_at, turn_at, is_calm, tick_at, link_turn}
 use Rattle.pre_sim.specs.Stands.{has_begun, StillWaiting, AreApart, AreRings, AreInside, LaneStands}
 use Rattle.pre_sim.proofs.Lists.{every_weaker, none_selected}
 use Rattle.pre_sim.proofs.NumberTests.{is_eq, not_eq, same_number}
@@ -100,7 +100,6 @@ same_setting w h es a (untouched zero) = refl
 same_setting w h es a (untouched (suc t)) = refl
 same_setting w h es a (set_up t) = refl
 same_setting w h es a (settled t) = refl
-same_setting w h es a (entering t) = refl
 same_setting w h es a (entered t) = refl
 
 module _ (w : Scenario) (t : ℕ) (p : Phase) (h es : History) (b : ℕ) (b_lt : b < length w.net.arcs) (place : HasPlace (length w.net.arcs) (place_of (length w.net.arcs) p) p)

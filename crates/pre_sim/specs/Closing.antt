@@ -15,8 +15,15 @@ abbrev pub told_of : Option Event → List PlainEvent
 told_of None = []
 told_of (Some e) = plain e ∷ []
 
--- It is the `count` line of the arc, where it has one.
-abbrev pub IsCountLine : ℕ → Lane → Option Event → Type 0
-IsCountLine a lane line =
+-- a line tells counters of the arc
+abbrev pub IsOfArc : ℕ → Event → Type 0
+IsOfArc a e = (c : Counts) × (plain e ≡ PlainEvent.count a c)
+
+-- They are the `count` line of the arc, where it has one.
+abbrev pub TellsCounts : ℕ → Lane → History → Type 0
+TellsCounts a lane es =
     (w : Scenario) (h : History) (n : ℕ) (stage : Stage) (items : List Entry) → a < length w.net.arcs → LegalUpTo w n h → length (Arrivals h a) < 2 ^ 64 → LaneStands w h a stage lane items
-    → (c : Counts) × CountsOf w h a c × (told_of line ≡ count_line a c)
+    → (c : Counts) × CountsOf w h a c × (es ≡ count_line a c)
+
+abbrev pub IsCountLine : ℕ → Lane → Option Event → Type 0
+IsCountLine a lane line = TellsCounts a lane (told_of line)

@@ -1,5 +1,5 @@
 -- What becomes of frames that come to rings, one after another.
-use Rattle.std.specs.Prelude.{ℕ, zero, suc, ◌+◌, ◌<◌, ◌≤◌, ◌≡◌, ◌≢◌, min, Bool, true, false, List, [], ◌∷◌, ◌++◌, length, map, take, count_by, replicate, Contains}
+use Rattle.std.specs.Prelude.{ℕ, zero, suc, ◌+◌, ◌<◌, ◌≤◌, ◌≡◌, ◌≢◌, min, Bool, true, false, List, [], ◌∷◌, ◌++◌, length, map, take, count_by, replicate, Contains, Some, slice_get}
 use Rattle.std.specs.List.{AllByRecursion as Every}
 use Rattle.pre_rings.specs.declared.slots.FrameRef.{FrameRef}
 use Rattle.pre_history.specs.Scenario.{Scenario}
@@ -12,7 +12,7 @@ use Rattle.pre_bridge.specs.Inside.{Call, Entry, taken, inside}
 use Rattle.pre_bridge.specs.Turns.{dues}
 use Rattle.pre_bridge.specs.Relays.{Stands}
 use Rattle.pre_sim.specs.declared.lanes.Lane.{Lane}
-use Rattle.pre_sim.specs.Stands.{LanesEnter}
+use Rattle.pre_sim.specs.Stands.{RingsStand}
 use Rattle.pre_sim.specs.Keeps.{Store, Keeps}
 
 -- All mPackets began at earlier ticks, and all that came to a ring came by this one.
@@ -58,21 +58,34 @@ sent_frames w k (suc n) = sent_frames w k n ++ sent_frame w (k + n) ∷ []
 
 -- ---- what becomes of them
 
-module _ (w : Scenario) (t : ℕ) (cs : List Coming) (old : List Lane) where
-  -- these events are what the rules say of them, and the lanes stand behind them
-  abbrev pub Come : List Lane → History → Type 0
-  Come new es = (h : History) (entries : List Entry) → AreNew w h cs → LanesEnter w h t old entries → BeforeEntries t h
-      → (es ≡ EntriesOf w t h cs) × LanesEnter w (h ++ es) t new entries × BeforeEntries t (h ++ es)
+-- all of a lane but its rings is as it was
+pub record SameButRings (old new : Lane) : Type 0 where
+  pub outgoing : new.outgoing ≡ old.outgoing
+  pub incoming : new.incoming ≡ old.incoming
+  pub partner : new.partner ≡ old.partner
+  pub setting : new.setting ≡ old.setting
+  pub link : new.link ≡ old.link
 
-  -- they came to their rings, and what became of each was told
+-- so it is of each lane
+abbrev pub AreSameButRings : List Lane → List Lane → Type 0
+AreSameButRings old new = (a : ℕ) (lane : Lane) → slice_get new a ≡ Some lane → (was : Lane) × (slice_get old a ≡ Some was) × SameButRings was lane
+
+module _ (w : Scenario) (t : ℕ) (cs : List Coming) (old : List Lane) where
+  -- these events are what the rules say of them, and the rings stand behind them
+  abbrev pub Come : List Lane → History → Type 0
+  Come new es = (h : History) → AreNew w h cs → RingsStand w h old → BeforeEntries t h
+      → (es ≡ EntriesOf w t h cs) × RingsStand w (h ++ es) new × BeforeEntries t (h ++ es)
+
+  -- they came to their rings, nothing else changed, and what became of each was told
   pub record ComesPart (new : List Lane) (lost : ℕ) (es : History) : Type 0 where
     pub deliveries : length (Deliveries es) ≡ 0
     pub drops : lost ≡ count_by is_dropped es
+    pub others : AreSameButRings old new
     pub come : Come new es
 
   -- what was told is of the first ones
   abbrev pub ComesFront : History → Type 0
-  ComesFront es = (h : History) (entries : List Entry) → AreNew w h cs → LanesEnter w h t old entries → BeforeEntries t h
+  ComesFront es = (h : History) → AreNew w h cs → RingsStand w h old → BeforeEntries t h
       → (front : List Coming) × (rest : List Coming) × (cs ≡ front ++ rest) × (es ≡ EntriesOf w t h front)
 
 -- the frame comes to the arc

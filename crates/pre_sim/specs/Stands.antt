@@ -18,7 +18,7 @@ use Rattle.pre_links.specs.Listening.{Hears}
 use Rattle.pre_links.specs.Standing.{LinkStands}
 use Rattle.pre_sim.specs.declared.lanes.Lane.{Lane}
 use Rattle.pre_sim.specs.declared.ticks.Progress.{Progress}
-use Rattle.pre_sim.specs.Stages.{Stage, entering, stage_at, setting_at, turn_at, is_calm, tick_at, link_turn}
+use Rattle.pre_sim.specs.Stages.{Stage, stage_at, setting_at, turn_at, is_calm, tick_at, link_turn}
 
 module _ (h : History) where
   -- whether the frame's first octet began on the arc
@@ -86,9 +86,9 @@ abbrev pub LanesStand : Scenario → History → (t k : ℕ) → List Lane → L
 LanesStand w h t k lanes entries =
     (a : ℕ) (lane : Lane) → slice_get lanes a ≡ Some lane → LaneStands w h a (stage_at (length w.net.arcs) t k a) lane (of_arc a entries)
 
--- So do all lanes, while frames come to rings.
-abbrev pub LanesEnter : Scenario → History → (t : ℕ) → List Lane → List Entry → Type 0
-LanesEnter w h t lanes entries = (a : ℕ) (lane : Lane) → slice_get lanes a ≡ Some lane → LaneStands w h a (entering t) lane (of_arc a entries)
+-- What the rings of each lane hold is what waits, while frames come to them.
+abbrev pub RingsStand : Scenario → History → List Lane → Type 0
+RingsStand w h lanes = (a : ℕ) (lane : Lane) → slice_get lanes a ≡ Some lane → AreRings w h a lane.rings
 
 -- so many sends are those before the tick
 pub record AreSentBefore (w : Scenario) (tick sent : ℕ) : Type 0 where

@@ -16,7 +16,6 @@ use crate::starts::starts;
 use crate::telling::tell;
 use pre_base::Tick;
 use pre_bridge::{Relay, takes_law};
-use pre_history::{events_before_their_end, mpackets_in_order};
 use pre_laws::{deliveries_are_of_frames_sent, files_give_routes};
 use pre_rings::FrameStore;
 use pre_trace::{Event, Watcher};
@@ -126,8 +125,6 @@ fn entries<W: Watcher>(
     ensures cause { HasCause (W.faults watcher.old) (W.faults watcher.new) result }
     ensures same { W.same watcher.old watcher.new }
 {
-    mpackets_in_order();
-    events_before_their_end();
     takes_law();
     let lost = relays(
         plan,
