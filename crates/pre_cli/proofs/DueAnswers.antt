@@ -18,13 +18,16 @@ use Rattle.pre_cli.specs.declared.statuses.Status.{Status}
 use Rattle.pre_cli.specs.declared.statuses.Status.TheVariants as status
 use Rattle.pre_cli.specs.Answers.{Outside}
 use Rattle.pre_cli.specs.Certifying.{pair_network, pair_streams, text_named, topo_status, stream_status, OfFiles, IsNetIn, NetRefused, AreStreamsIn, StreamsRefused}
-use Rattle.pre_cli.specs.Commands.{Command, certifies, lists, replays, unknown, command_of, CauseBy, CauseOf}
+use Rattle.pre_cli.specs.Judging.{judging}
+use Rattle.pre_cli.specs.Commands.{Command, certifies, lists, judges, migrates, replays, unknown, command_of, CauseBy, CauseOf}
 use Rattle.pre_cli.specs.Due.{TellsFiles}
 use Rattle.pre_cli.specs.DueReplays.{Outcome, gone, refused, runs, ComeTo, IsReplayDue}
 use Rattle.pre_cli.specs.Negotiating.{first_negotiating_link}
 use Rattle.pre_cli.specs.Replaying.{negotiating_status, IsRunNetIn, RunNetRefused, IsScriptIn, ScriptRefused, IsScenarioIn, RefusedIn, IsGoneFrom, GoneIn, ReplayingCause}
 use Rattle.pre_cli.specs.Words.{ReplayWords}
+use Rattle.pre_cli.proofs.JudgeLemmas.{judging_refusing}
 use Rattle.pre_cli.proofs.OneReading.{one_network, one_streams}
+use Rattle.pre_cli.proofs.ReadingLemmas.{no_words}
 use Rattle.pre_cli.proofs.Texts.{some_same, Refuses, Reads, refused_once, refused_not_read, read_once, refused_there, read_there}
 
 -- what is said of told files, at the files that are told
@@ -40,6 +43,8 @@ wrong_words s words o is cause = subst (λ (k : Command). CauseBy k s o) is caus
 only_unknown : (k : Command) (o : Outside) → CauseBy k status.Words o → k ≡ unknown
 only_unknown (certifies net streams) o cause = absurd cause
 only_unknown (lists name) o cause = absurd cause
+only_unknown (judges words) o cause = absurd (no_words (judging words) o (judging_refusing words) cause)
+only_unknown (migrates words) o cause = absurd (no_words (judging words) o (judging_refusing words) cause)
 only_unknown (replays words) o cause = absurd cause
 only_unknown unknown o cause = refl
 
@@ -244,4 +249,6 @@ replay_answer (status.Rules kind row rule) words outcome o told tells came cause
     (told_as o told (OfFiles (RefusedIn words (status.Rules kind row rule))) tells cause).1.0 (inl refl)
 replay_answer status.Memory words outcome o told tells came cause = memory_due o outcome
 replay_answer status.Words words outcome o told tells came cause = absurd cause
+replay_answer (status.Rejected clause row) words outcome o told tells came cause = absurd cause
+replay_answer (status.Unruly line) words outcome o told tells came cause = absurd cause
 replay_answer (status.Unfit u) words outcome o told tells came cause = absurd cause

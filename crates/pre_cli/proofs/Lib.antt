@@ -8,9 +8,11 @@ pub mod OneTrace
 pub mod PacketLines
 pub mod ListLemmas
 pub mod DueListing
-mod CertifyLemmas
+pub mod CertifyLemmas
 mod ReplayLemmas
 mod CanRuns
 pub mod DueCertificate
 pub mod OneReading
 pub mod DueStreams
+pub mod ReadingLemmas
+pub mod JudgeLemmas

@@ -48,6 +48,8 @@ behind (status.Rules k row rule) P gone all_gone refused all_refused before betw
 behind status.Memory P gone all_gone refused all_refused before between now a b d later f none g read cause = tt
 behind status.Done P gone all_gone refused all_refused before between now a b d later f none g read cause = absurd cause
 behind status.Words P gone all_gone refused all_refused before between now a b d later f none g read cause = absurd cause
+behind (status.Rejected clause row) P gone all_gone refused all_refused before between now a b d later f none g read cause = absurd cause
+behind (status.Unruly line) P gone all_gone refused all_refused before between now a b d later f none g read cause = absurd cause
 behind status.WriteFault P gone all_gone refused all_refused before between now a b d later f none g read cause = absurd cause
 behind (status.Unfit u) P gone all_gone refused all_refused before between now a b d later f none g read cause = absurd cause
 
@@ -79,6 +81,8 @@ module _ (words : ReplayWords) where
   net_cause status.Memory before now a b cause = tt
   net_cause status.Done before now a b cause = absurd cause
   net_cause status.Words before now a b cause = absurd cause
+  net_cause (status.Rejected clause row) before now a b cause = absurd cause
+  net_cause (status.Unruly line) before now a b cause = absurd cause
   net_cause status.WriteFault before now a b cause = absurd cause
   net_cause (status.Unfit u) before now a b cause = absurd cause
 
@@ -116,6 +120,8 @@ module _ (words : ReplayWords) where
     run_cause status.WriteFault cause = (cause.1, (w, read))
     run_cause status.Memory cause = tt
     run_cause status.Words cause = absurd cause
+    run_cause (status.Rejected clause row) cause = absurd cause
+    run_cause (status.Unruly line) cause = absurd cause
     run_cause status.ReadFault cause = absurd cause
     run_cause (status.Rules kind row rule) cause = absurd cause
     run_cause (status.Unfit u) cause = absurd cause
@@ -126,6 +132,8 @@ module _ (words : ReplayWords) where
     run_leaves status.WriteFault ends = (w, read, ends)
     run_leaves status.Memory ends = inr (w, read, ends)
     run_leaves status.Words ends = absurd ends
+    run_leaves (status.Rejected clause row) ends = absurd ends
+    run_leaves (status.Unruly line) ends = absurd ends
     run_leaves status.ReadFault ends = absurd ends
     run_leaves (status.Rules kind row rule) ends = absurd ends
     run_leaves (status.Unfit u) ends = absurd ends

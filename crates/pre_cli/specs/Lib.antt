@@ -9,6 +9,9 @@ pub mod PacketFiles
 pub mod Listing
 pub mod Listed
 pub mod Certifying
+pub mod Readings
+pub mod Putting
+pub mod Judging
 pub mod Negotiating
 pub mod Replaying
 pub mod Commands

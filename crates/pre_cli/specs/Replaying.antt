@@ -90,6 +90,8 @@ ReplayingCause (status.Form kind line rule) words o = WhereTold o.told_before o.
 ReplayingCause (status.Rules kind row rule) words o = WhereTold o.told_before o.told_after (OfFiles (RefusedIn words (status.Rules kind row rule)))
 ReplayingCause status.Memory words o = Unit {0}
 ReplayingCause status.Words words o = ⊥
+ReplayingCause (status.Rejected clause row) words o = ⊥
+ReplayingCause (status.Unruly line) words o = ⊥
 ReplayingCause (status.Unfit cause) words o = ⊥
 
 -- the sink took this of what the words stand for
@@ -107,4 +109,6 @@ ReplayingLeaves status.ReadFault words o = o.taken_after ≡ o.taken_before
 ReplayingLeaves (status.Form kind line rule) words o = o.taken_after ≡ o.taken_before
 ReplayingLeaves (status.Rules kind row rule) words o = o.taken_after ≡ o.taken_before
 ReplayingLeaves status.Words words o = o.taken_after ≡ o.taken_before
+ReplayingLeaves (status.Rejected clause row) words o = o.taken_after ≡ o.taken_before
+ReplayingLeaves (status.Unruly line) words o = o.taken_after ≡ o.taken_before
 ReplayingLeaves (status.Unfit cause) words o = o.taken_after ≡ o.taken_before

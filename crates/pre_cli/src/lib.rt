@@ -4,6 +4,7 @@
 mod certifying;
 mod certifying_laws;
 mod commands;
+mod judging;
 mod laws;
 mod listing_laws;
 mod listings;
