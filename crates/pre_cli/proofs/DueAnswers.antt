@@ -25,15 +25,11 @@ use Rattle.pre_cli.specs.DueReplays.{Outcome, gone, refused, runs, ComeTo, IsRep
 use Rattle.pre_cli.specs.Negotiating.{first_negotiating_link}
 use Rattle.pre_cli.specs.Replaying.{negotiating_status, IsRunNetIn, RunNetRefused, IsScriptIn, ScriptRefused, IsScenarioIn, RefusedIn, IsGoneFrom, GoneIn, ReplayingCause}
 use Rattle.pre_cli.specs.Words.{ReplayWords}
+use Rattle.pre_cli.proofs.DueReadings.{told_as}
 use Rattle.pre_cli.proofs.JudgeLemmas.{judging_refusing}
 use Rattle.pre_cli.proofs.OneReading.{one_network, one_streams}
 use Rattle.pre_cli.proofs.ReadingLemmas.{no_words}
 use Rattle.pre_cli.proofs.Texts.{some_same, Refuses, Reads, refused_once, refused_not_read, read_once, refused_there, read_there}
-
--- what is said of told files, at the files that are told
-pub told_as : (o : Outside) (told : Told) (P : Told → Told → Type 0) → TellsFiles o told → WhereTold o.told_before o.told_after P → (after : Told) × P told after
-told_as o told P (before, (after, later)) where_told =
-    (after, subst (λ b. WhereTold (Some told) b P) later (subst (λ a. WhereTold a o.told_after P) before where_told))
 
 -- ---- words
 

@@ -10,7 +10,7 @@ use Rattle.pre_cli.specs.Scripts.{max_file}
 use Rattle.pre_cli.specs.Answers.{Outside}
 use Rattle.pre_cli.specs.Due.{GivesUp, TellsFiles}
 use Rattle.pre_cli.specs.Certifying.{text_named, topo_status, OfFiles, IsNetIn, NetRefused, AreBothIn, RefusedIn, GoneIn, HasBoth, CertifyingCause, pair_network}
-use Rattle.pre_cli.proofs.DueAnswers.{told_as}
+use Rattle.pre_cli.proofs.DueReadings.{told_as}
 use Rattle.pre_cli.proofs.Texts.{err_same, ok_err, some_same}
 
 pub same_text : (built_in word x y : List ℕ) (files : Files) → text_named built_in word files ≡ Some x → text_named built_in word files ≡ Some y → x ≡ y

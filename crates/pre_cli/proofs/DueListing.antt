@@ -10,7 +10,7 @@ use Rattle.pre_cli.specs.Answers.{Outside}
 use Rattle.pre_cli.specs.Due.{GivesUp, TellsFiles}
 use Rattle.pre_cli.specs.Listed.{HasPackets, ListingCause}
 use Rattle.pre_cli.specs.DueListings.{TellsPackets, IsListingDue}
-use Rattle.pre_cli.proofs.DueAnswers.{told_as}
+use Rattle.pre_cli.proofs.DueReadings.{told_as}
 use Rattle.pre_cli.proofs.Texts.{some_same}
 
 -- the first fault is one

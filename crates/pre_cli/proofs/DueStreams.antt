@@ -17,7 +17,7 @@ use Rattle.pre_cli.specs.Answers.{Outside}
 use Rattle.pre_cli.specs.Due.{GivesUp, TellsFiles}
 use Rattle.pre_cli.specs.Certifying.{text_named, stream_status, OfFiles, IsNetIn, AreStreamsIn, StreamsRefused, HasLeast, UnfitCause, AreBothIn, RefusedIn, GoneIn, HasBoth, CertifyingCause, pair_network, pair_streams}
 use Rattle.pre_cli.specs.DueCertificates.{IsCertified, IsDueForBoth, RefusesAs}
-use Rattle.pre_cli.proofs.DueAnswers.{told_as}
+use Rattle.pre_cli.proofs.DueReadings.{told_as}
 use Rattle.pre_cli.proofs.DueCertificate.{same_text, too_long, net_not, none_net}
 use Rattle.pre_cli.proofs.OneReading.{one_network, one_streams}
 use Rattle.pre_cli.proofs.Texts.{err_same, ok_err, ok_same}

@@ -58,7 +58,7 @@ certificate_instead word net streams s before now a b = text_instead (certificat
 -- ---- which answers may come
 
 rejected_refusing : (net : Network) (streams : Streams) (c : Certificate) (s : Status) → IsRejected net streams c s → IsInstead s
-rejected_refusing net streams c s (clause, row, breaks, is) = subst IsInstead (sym is) tt
+rejected_refusing net streams c s (has, (clause, row, breaks, is)) = subst IsInstead (sym is) tt
 
 pub certified_refusing : (streams_word certificate_word : List ℕ) (net : Network) → Refusing (certified_in streams_word certificate_word net)
 certified_refusing streams_word certificate_word net =

@@ -16,3 +16,6 @@ pub mod OneReading
 pub mod DueStreams
 pub mod ReadingLemmas
 pub mod JudgeLemmas
+pub mod DueReadings
+pub mod DueTexts
+pub mod DueVerdicts

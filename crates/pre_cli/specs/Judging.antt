@@ -11,7 +11,7 @@ use Rattle.pre_bound.specs.declared.certificate.Certificate.{Certificate}
 use Rattle.pre_bound.specs.Listed.{GoodCertificate}
 use Rattle.pre_check.specs.declared.reading.CertificateFault.{CertificateFault}
 use Rattle.pre_check.specs.declared.reading.CertificateFault.TheVariants.{Fault, Memory}
-use Rattle.pre_check.specs.Lines.{Breaks}
+use Rattle.pre_check.specs.Lines.{HasRows, Breaks}
 use Rattle.pre_check.specs.Seen.{rows_in}
 use Rattle.pre_check.specs.Reading.{certificate_of}
 use Rattle.pre_certify.specs.Text.{certificate_text}
@@ -77,9 +77,9 @@ certificate_in word net streams = record {
   may = IsTextAnswer;
 }
 
--- the first clause that fails, and its first row
+-- the certificate has the rows that are due, and this is the first clause that fails, and its first row
 abbrev pub IsRejected : Network → Streams → Certificate → Status → Type 0
-IsRejected net streams c s = (clause row : ℕ) × Breaks net streams.rows c clause row × (s ≡ status.Rejected clause row)
+IsRejected net streams c s = HasRows net streams.rows c × ((clause row : ℕ) × Breaks net streams.rows c clause row × (s ≡ status.Rejected clause row))
 
 -- a certificate that is good, or is rejected
 abbrev pub good_certificate_in : List ℕ → Network → Streams → Reading Certificate

@@ -13,4 +13,4 @@ returns-in-Rejected-clause-cause g c =
     let row = c.in-Rejected.row in
     failed_instead (certificate_in c.args.name.now net streams) (GoodCertificate net streams) (IsRejected net streams) c.in-Ok.certificate (status.Rejected clause row)
     (g.H.Shelf.faults c.args.shelf.now) (g.H.Shelf.faults c.certificate_in.new.shelf) (g.H.Shelf.tells c.args.shelf.now) (g.H.Shelf.tells c.certificate_in.new.shelf)
-    (clause, row, c.judge.ensures.rejected clause row c.in-Rejected.is, refl) c.in-Ok.ensures.certificate
+    (c.in-Ok.ensures.rows, (clause, row, c.judge.ensures.rejected clause row c.in-Rejected.is, refl)) c.in-Ok.ensures.certificate
