@@ -10,6 +10,8 @@ use Rattle.pre_streams.specs.StreamsOf.{streams_of}
 use Rattle.pre_streams.specs.Made.{row_parts}
 use Rattle.pre_bound.specs.declared.certificate.Certificate.{Certificate}
 use Rattle.pre_bound.specs.Limits.{IsWithin}
+use Rattle.pre_script.specs.declared.scripts.Script.{Script}
+use Rattle.pre_script.specs.Reading.{script_of}
 use Rattle.pre_check.specs.Seen.{Rows, rows_in}
 use Rattle.pre_check.specs.Reading.{certificate_of}
 use Rattle.pre_cli.specs.declared.statuses.FileWord.{FileWord}
@@ -18,6 +20,7 @@ use Rattle.pre_cli.specs.declared.statuses.Status.{Status}
 use Rattle.pre_cli.specs.declared.statuses.Status.TheVariants as status
 use Rattle.pre_cli.specs.Certifying.{pair_network, pair_streams, text_named, topo_status, stream_status, IsNetIn, NetRefused, AreStreamsIn, StreamsRefused}
 use Rattle.pre_cli.specs.Judging.{network_in, streams_in, IsCertificateIn, CertificateRefused, certificate_in}
+use Rattle.pre_cli.specs.Replaying.{IsScriptIn, ScriptRefused, script_in}
 use Rattle.pre_cli.proofs.OneReading.{one_network, one_streams}
 use Rattle.pre_cli.proofs.Texts.{Refuses, Reads, refused_once, refused_not_read, read_once, refused_there, read_there}
 use Rattle.pre_cli.proofs.DueReadings.{Decided}
@@ -98,4 +101,23 @@ module _ (word : List ℕ) (net : Network) (streams : Streams) where
     not_refused = λ files c s p q. refused_not_read file.Cert (certificate_of net streams) (at_place file.Cert) (get files word) s (rows_in c) (certificate_refuses files s q) (certificate_reads files c p);
     not_gone = λ files c p none. read_there file.Cert (certificate_of net streams) (at_place file.Cert) (get files word) (rows_in c) (certificate_reads files c p) none;
     refused_there = λ files s p none. refused_there file.Cert (certificate_of net streams) (at_place file.Cert) (get files word) s (certificate_refuses files s p) none;
+  }
+
+-- ---- a script
+
+module _ (word : List ℕ) (net : Network) (streams : Streams) where
+  script_refuses : (files : Files) (s : Status) → ScriptRefused word net streams s files → Refuses file.Script (script_of net streams) (at_place file.Script) (get files word) s
+  script_refuses files s (inl long) = inl long
+  script_refuses files s (inr (x, p, rest)) = inr (x, p.0, p.1, rest)
+
+  script_reads : (files : Files) (script : Script) → IsScriptIn word net streams script files → Reads file.Script (script_of net streams) (at_place file.Script) (get files word) script
+  script_reads files script (x, p, well) = (x, p.0, p.1, well)
+
+  pub script_decided : Decided (script_in word net streams)
+  script_decided = record {
+    given_once = λ files script other p q. read_once file.Script (script_of net streams) (at_place file.Script) (get files word) script other (script_reads files script p) (script_reads files other q);
+    refused_once = λ files s t p q. refused_once file.Script (script_of net streams) (at_place file.Script) (get files word) s t (script_refuses files s p) (script_refuses files t q);
+    not_refused = λ files script s p q. refused_not_read file.Script (script_of net streams) (at_place file.Script) (get files word) s script (script_refuses files s q) (script_reads files script p);
+    not_gone = λ files script p none. read_there file.Script (script_of net streams) (at_place file.Script) (get files word) script (script_reads files script p) none;
+    refused_there = λ files s p none. refused_there file.Script (script_of net streams) (at_place file.Script) (get files word) s (script_refuses files s p) none;
   }

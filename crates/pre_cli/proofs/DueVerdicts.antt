@@ -13,7 +13,8 @@ use Rattle.pre_check.specs.Lines as clause
 use Rattle.pre_check.proofs.Holding.{all_from_good}
 use Rattle.pre_cli.specs.declared.statuses.Status.{Status}
 use Rattle.pre_cli.specs.declared.statuses.Status.TheVariants as status
-use Rattle.pre_cli.specs.Judging.{JudgeWords, network_in, streams_in, certificate_in, IsRejected, good_certificate_in, certified_in, judging}
+use Rattle.pre_cli.specs.Judging.{network_in, streams_in, certificate_in, IsRejected, good_certificate_in, certified_in, judging}
+use Rattle.pre_cli.specs.Words.{JudgeWords}
 use Rattle.pre_cli.proofs.DueReadings.{Decided, then_decided, tested_decided}
 use Rattle.pre_cli.proofs.DueTexts.{network_decided, streams_decided, certificate_decided}
 

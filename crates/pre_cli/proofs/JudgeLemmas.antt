@@ -15,7 +15,8 @@ use Rattle.pre_cli.specs.declared.statuses.Status.{Status}
 use Rattle.pre_cli.specs.declared.statuses.Status.TheVariants as status
 use Rattle.pre_cli.specs.Certifying.{pair_network, pair_streams, OfFiles, IsGone, IsFileIn, IsNoFile, InPlace, NetRefused, StreamsRefused}
 use Rattle.pre_cli.specs.Readings.{Instead}
-use Rattle.pre_cli.specs.Judging.{JudgeWords, network_in, streams_in, certificate_status, IsCertificateIn, CertificateRefused, certificate_in, IsRejected, good_certificate_in, certified_in, judging}
+use Rattle.pre_cli.specs.Judging.{network_in, streams_in, certificate_status, IsCertificateIn, CertificateRefused, certificate_in, IsRejected, good_certificate_in, certified_in, judging}
+use Rattle.pre_cli.specs.Words.{JudgeWords}
 use Rattle.pre_cli.proofs.CertifyLemmas.{of_more}
 use Rattle.pre_cli.proofs.ReadingLemmas.{gone_file, text_instead, IsInstead, Refusing, text_refusing, then_refusing, tested_refusing}
 

@@ -9,7 +9,7 @@ pub mod PacketLines
 pub mod ListLemmas
 pub mod DueListing
 pub mod CertifyLemmas
-mod ReplayLemmas
+pub mod ReplayLemmas
 mod CanRuns
 pub mod DueCertificate
 pub mod OneReading
@@ -19,3 +19,6 @@ pub mod JudgeLemmas
 pub mod DueReadings
 pub mod DueTexts
 pub mod DueVerdicts
+pub mod CurveLemmas
+pub mod HeadlineLemmas
+pub mod DueReplaying

@@ -5,9 +5,10 @@ use Rattle.pre_cli.specs.declared.statuses.Status.{Status}
 use Rattle.pre_cli.specs.declared.statuses.Status.TheVariants as status
 use Rattle.pre_cli.specs.Words.{ReplayWords, replay_named}
 use Rattle.pre_cli.specs.Answers.{Outside}
-use Rattle.pre_cli.specs.Replaying.{ReplayingCause, ReplayingLeaves}
+use Rattle.pre_cli.specs.Replaying.{replaying, ReplayingLeaves}
 use Rattle.pre_cli.specs.Readings.{AnswerCause, AnswerLeaves}
-use Rattle.pre_cli.specs.Judging.{JudgeWords, judge_named, judging, Accepts, AcceptsFront, Migrates, MigratesFront}
+use Rattle.pre_cli.specs.Judging.{judging, Accepts, AcceptsFront, Migrates, MigratesFront}
+use Rattle.pre_cli.specs.Words.{JudgeWords, judge_named}
 use Rattle.pre_cli.specs.Listed.{ListingCause, ListingLeaves}
 use Rattle.pre_cli.specs.Certifying.{CertifyingCause, CertifyingLeaves}
 
@@ -59,7 +60,7 @@ CauseBy (certifies net streams) s o = CertifyingCause s net streams o
 CauseBy (lists name) s o = ListingCause s name o
 CauseBy (judges words) s o = AnswerCause (judging words) s o
 CauseBy (migrates words) s o = AnswerCause (judging words) s o
-CauseBy (replays words) s o = ReplayingCause s words o
+CauseBy (replays words) s o = AnswerCause (replaying words) s o
 CauseBy unknown s o = s ≡ status.Words
 
 abbrev pub CauseOf : Status → List (List ℕ) → Outside → Type 0
@@ -71,7 +72,7 @@ LeavesBy (certifies net streams) s o = CertifyingLeaves s net streams o
 LeavesBy (lists name) s o = ListingLeaves s name o o.taken_before o.taken_after
 LeavesBy (judges words) s o = AnswerLeaves (judging words) Accepts AcceptsFront s o
 LeavesBy (migrates words) s o = AnswerLeaves (judging words) Migrates MigratesFront s o
-LeavesBy (replays words) s o = ReplayingLeaves s words o
+LeavesBy (replays words) s o = ReplayingLeaves words s o
 LeavesBy unknown s o = o.taken_after ≡ o.taken_before
 
 abbrev pub LeavesOf : Status → List (List ℕ) → Outside → Type 0

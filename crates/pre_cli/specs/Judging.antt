@@ -1,6 +1,5 @@
 -- What the commands that judge and migrate a certificate read, answer and leave.
-use Rattle.std.specs.Prelude.{◌≡◌, ◌⊎◌, ℕ, List, [], ◌∷◌, Option, Some, None, Ok, Err, codes, if◌then◌else◌}
-use Rattle.std.specs.Str.{bytes_eq}
+use Rattle.std.specs.Prelude.{◌≡◌, ◌⊎◌, ℕ, List, None, Ok, Err, codes}
 use Rattle.std.specs.FinMap.{get}
 use Rattle.pre_base.specs.Shelves.{Files}
 use Rattle.pre_base.specs.Sinks.{Taken}
@@ -20,22 +19,7 @@ use Rattle.pre_cli.specs.declared.statuses.Status.{Status}
 use Rattle.pre_cli.specs.declared.statuses.Status.TheVariants as status
 use Rattle.pre_cli.specs.Certifying.{pair_network, pair_streams, text_named, IsFileIn, IsLongFile, IsNetIn, NetRefused, AreStreamsIn, StreamsRefused, TakesFlushed}
 use Rattle.pre_cli.specs.Readings.{Reading, then_read, tested, IsTextAnswer}
-
--- ---- the words
-
--- the words for the network, the streams and the certificate
-pub record JudgeWords : Type 0 where
-  pub net : List ℕ
-  pub streams : List ℕ
-  pub certificate : List ℕ
-
-abbrev pub judge_words : List ℕ → List ℕ → List ℕ → JudgeWords
-judge_words net streams certificate = record { net = net; streams = streams; certificate = certificate }
-
--- they, where the words are this command and three more
-abbrev pub judge_named : List ℕ → List (List ℕ) → Option JudgeWords
-judge_named name (command ∷ net ∷ streams ∷ certificate ∷ []) = if bytes_eq command name then Some (judge_words net streams certificate) else None
-judge_named name _ = None
+use Rattle.pre_cli.specs.Words.{JudgeWords}
 
 -- ---- a network, streams and a certificate
 

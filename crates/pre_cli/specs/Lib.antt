@@ -13,8 +13,9 @@ pub mod Readings
 pub mod Putting
 pub mod Judging
 pub mod Negotiating
+pub mod Curves
+pub mod Headline
 pub mod Replaying
 pub mod Commands
 pub mod DueListings
 pub mod DueCertificates
-pub mod DueReplays

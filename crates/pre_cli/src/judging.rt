@@ -6,7 +6,8 @@ ghost use Rattle.pre_check.specs.Lines.{HasRows};
 ghost use Rattle.pre_certify.specs.Text.{certificate_text};
 ghost use Rattle.pre_cli.specs.Certifying.{OfFiles, InPlace, IsNoFile};
 ghost use Rattle.pre_cli.specs.Readings.{Instead, AnswerCause, AnswerLeaves};
-ghost use Rattle.pre_cli.specs.Judging.{judge_words, IsCertificateIn, CertificateRefused, good_certificate_in, certified_in, judging, accepted_text, Accepts, AcceptsFront, Migrates, MigratesFront};
+ghost use Rattle.pre_cli.specs.Judging.{IsCertificateIn, CertificateRefused, good_certificate_in, certified_in, judging, accepted_text, Accepts, AcceptsFront, Migrates, MigratesFront};
+ghost use Rattle.pre_cli.specs.Words.{judge_words};
 ghost use Rattle.pre_cli.specs.Judging as judging_words;
 ghost use Rattle.pre_cli.specs.Putting.{PutEnds, PutCause};
 

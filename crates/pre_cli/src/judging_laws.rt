@@ -1,7 +1,8 @@
 ghost use Rattle.pre_cli.specs.declared.statuses.Status.TheVariants as status;
 ghost use Rattle.pre_cli.specs.Answers.{Outside};
 ghost use Rattle.pre_cli.specs.Readings.{OneOutcome, DueIsAnswered, AnswerCause};
-ghost use Rattle.pre_cli.specs.Judging.{JudgeWords, judging};
+ghost use Rattle.pre_cli.specs.Judging.{judging};
+ghost use Rattle.pre_cli.specs.Words.{JudgeWords};
 
 /// Where a certificate is to be judged or migrated, files come to one outcome at most: a text that isn't there at its turn, the
 /// first one that is refused or a certificate that is rejected, or one network, streams and a good certificate for them; and

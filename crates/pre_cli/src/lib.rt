@@ -4,6 +4,7 @@
 mod certifying;
 mod certifying_laws;
 mod commands;
+mod curves;
 mod judging;
 mod judging_laws;
 mod laws;

@@ -49,6 +49,8 @@ pub fn preempt<H: Shelf, S: Sink>(
     }
     match replay_named(words) {
         None => Status::Words,
-        Some((net, streams, script)) => replay_files(alloc, net, streams, script, shelf, sink),
+        Some((net, streams, certificate, script)) => {
+            replay_files(alloc, net, streams, certificate, script, shelf, sink)
+        }
     }
 }

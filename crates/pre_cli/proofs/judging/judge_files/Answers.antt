@@ -3,7 +3,8 @@ use Rattle.pre_topo.specs.declared.network.Network.{Network}
 use Rattle.pre_streams.specs.declared.rows.Streams.{Streams}
 use Rattle.pre_bound.specs.declared.certificate.Certificate.{Certificate}
 use Rattle.pre_cli.specs.Answers.{Outside}
-use Rattle.pre_cli.specs.Judging.{judge_words, judging, accepted_text, Accepts, AcceptsFront}
+use Rattle.pre_cli.specs.Judging.{judging, accepted_text, Accepts, AcceptsFront}
+use Rattle.pre_cli.specs.Words.{judge_words}
 use Rattle.pre_cli.proofs.ReadingLemmas.{put_leaves}
 use Rattle.pre_cli.proofs.judging.judge_files.Goals as goal
 

@@ -4,7 +4,8 @@ use Rattle.pre_streams.specs.declared.rows.Streams.{Streams}
 use Rattle.pre_bound.specs.declared.certificate.Certificate.{Certificate}
 use Rattle.pre_certify.specs.Text.{certificate_text}
 use Rattle.pre_cli.specs.Answers.{Outside}
-use Rattle.pre_cli.specs.Judging.{judge_words, judging, Migrates, MigratesFront}
+use Rattle.pre_cli.specs.Judging.{judging, Migrates, MigratesFront}
+use Rattle.pre_cli.specs.Words.{judge_words}
 use Rattle.pre_cli.proofs.ReadingLemmas.{put_leaves}
 use Rattle.pre_cli.proofs.judging.migrate_files.Goals as goal
 
