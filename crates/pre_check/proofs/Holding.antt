@@ -87,6 +87,8 @@ module _ (net : Network) (streams : Streams) (v : Values) (fits : Fits net strea
       let due = has_hop_due streams.rows f.listed.0 f.stream (f.hop + 1) is (TakesAt-place f.stream (f.hop + 1) next f.behind).0 in
       h clause.rank_order (hops_from net streams.rows + due.0) due.0 (f.listed.0, f.hop + 1) due.1 refl ranked f.stream f.hop arc next at refl f.here f.behind
 
+-- a good certificate's numbers hold at each line
+module _ (net : Network) (streams : Streams) (v : Values) where
   -- a hop of a stream, and the one before
   follows : (e : ℕ × ℕ) → HopDue streams.rows e → (r : Row) (hop arc next : ℕ) → slice_get streams.rows e.0 ≡ Some r → hop + 1 ≡ e.1 → TakesAt r hop arc → TakesAt r e.1 next → Follows streams.rows arc next
   follows e due r hop arc next at q here there =

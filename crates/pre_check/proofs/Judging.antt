@@ -278,4 +278,4 @@ accepted net streams c fits prios has r is = (
     accepts good Accepted e = refl
     accepts good (Rejected number row) e =
         let breach = (judged net streams c good.values fits prios good.says (Rejected number row) e).1 number row refl in
-        absurd (breach.breaks (all_from_good net streams good.values fits prios good.good good.order breach.broken row))
+        absurd (breach.breaks (all_from_good net streams good.values good.good good.order breach.broken row))

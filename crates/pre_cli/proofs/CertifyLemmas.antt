@@ -88,6 +88,8 @@ file_cause (status.Rules k row rule) kind built_in word before now a b is cause 
 file_cause status.Memory kind built_in word before now a b is cause = tt
 file_cause status.Done kind built_in word before now a b is cause = absurd cause
 file_cause status.Words kind built_in word before now a b is cause = absurd cause
+file_cause (status.Rejected clause row) kind built_in word before now a b is cause = absurd cause
+file_cause (status.Unruly line) kind built_in word before now a b is cause = absurd cause
 file_cause status.WriteFault kind built_in word before now a b is cause = absurd cause
 file_cause (status.Unfit u) kind built_in word before now a b is cause = absurd cause
 
@@ -100,6 +102,8 @@ more_causes (status.Rules k row rule) gone P Q before now a b f cause = of_more 
 more_causes status.Memory gone P Q before now a b f cause = tt
 more_causes status.Done gone P Q before now a b f cause = absurd cause
 more_causes status.Words gone P Q before now a b f cause = absurd cause
+more_causes (status.Rejected clause row) gone P Q before now a b f cause = absurd cause
+more_causes (status.Unruly line) gone P Q before now a b f cause = absurd cause
 more_causes status.WriteFault gone P Q before now a b f cause = absurd cause
 more_causes (status.Unfit u) gone P Q before now a b f cause = absurd cause
 
@@ -181,6 +185,8 @@ flushed_leaves (status.Rules kind row rule) net streams k a b c least took ends 
 flushed_leaves (status.Unfit u) net streams k a b c least took ends = absurd ends
 flushed_leaves status.Memory net streams k a b c least took ends = absurd ends
 flushed_leaves status.Words net streams k a b c least took ends = absurd ends
+flushed_leaves (status.Rejected clause row) net streams k a b c least took ends = absurd ends
+flushed_leaves (status.Unruly line) net streams k a b c least took ends = absurd ends
 
 pub flushed_cause : (s : Status) (net : Network) (streams : Streams) (k : Certificate) (before between now : ℕ) (a b : Option Taken) → IsLeastRanked net streams k → NoneRefuses net streams.rows → before ≤ between → IsFlushed s a b → (s ≡ status.WriteFault → Rose between now)
     → CertifiedCause s net streams before now
@@ -192,6 +198,8 @@ flushed_cause (status.Rules kind row rule) net streams k before between now a b 
 flushed_cause (status.Unfit u) net streams k before between now a b least none later ends rose = absurd ends
 flushed_cause status.Memory net streams k before between now a b least none later ends rose = absurd ends
 flushed_cause status.Words net streams k before between now a b least none later ends rose = absurd ends
+flushed_cause (status.Rejected clause row) net streams k before between now a b least none later ends rose = absurd ends
+flushed_cause (status.Unruly line) net streams k before between now a b least none later ends rose = absurd ends
 
 -- ---- the command
 
@@ -208,6 +216,8 @@ net_cause (status.Rules k row rule) net_word streams_word o cause = of_more o.to
 net_cause status.Memory net_word streams_word o cause = tt
 net_cause status.Done net_word streams_word o cause = absurd cause
 net_cause status.Words net_word streams_word o cause = absurd cause
+net_cause (status.Rejected clause row) net_word streams_word o cause = absurd cause
+net_cause (status.Unruly line) net_word streams_word o cause = absurd cause
 net_cause status.WriteFault net_word streams_word o cause = absurd cause
 net_cause (status.Unfit u) net_word streams_word o cause = absurd cause
 
@@ -229,6 +239,8 @@ streams_cause (status.Rules k row rule) net_word streams_word net o between b la
 streams_cause status.Memory net_word streams_word net o between b later read cause = tt
 streams_cause status.Done net_word streams_word net o between b later read cause = absurd cause
 streams_cause status.Words net_word streams_word net o between b later read cause = absurd cause
+streams_cause (status.Rejected clause row) net_word streams_word net o between b later read cause = absurd cause
+streams_cause (status.Unruly line) net_word streams_word net o between b later read cause = absurd cause
 streams_cause status.WriteFault net_word streams_word net o between b later read cause = absurd cause
 streams_cause (status.Unfit u) net_word streams_word net o between b later read cause = absurd cause
 
@@ -245,6 +257,8 @@ certified_cause (status.Unfit u) net_word streams_word net streams o read cause 
     of_more o.told_before o.told_after (AreBothIn net_word streams_word net streams) (RefusedIn net_word streams_word (status.Unfit u)) (λ files p. inr (inr (net, streams, p, (u, cause, refl)))) read
 certified_cause status.Memory net_word streams_word net streams o read cause = tt
 certified_cause status.Words net_word streams_word net streams o read cause = absurd cause
+certified_cause (status.Rejected clause row) net_word streams_word net streams o read cause = absurd cause
+certified_cause (status.Unruly line) net_word streams_word net streams o read cause = absurd cause
 certified_cause status.ReadFault net_word streams_word net streams o read cause = absurd cause
 certified_cause (status.Form kind line rule) net_word streams_word net streams o read cause = absurd cause
 certified_cause (status.Rules kind row rule) net_word streams_word net streams o read cause = absurd cause
@@ -256,6 +270,8 @@ certified_leaves status.WriteFault net_word streams_word net streams o read took
 certified_leaves (status.Unfit u) net_word streams_word net streams o read took = took
 certified_leaves status.Memory net_word streams_word net streams o read took = took
 certified_leaves status.Words net_word streams_word net streams o read took = took
+certified_leaves (status.Rejected clause row) net_word streams_word net streams o read took = took
+certified_leaves (status.Unruly line) net_word streams_word net streams o read took = took
 certified_leaves status.ReadFault net_word streams_word net streams o read took = took
 certified_leaves (status.Form kind line rule) net_word streams_word net streams o read took = took
 certified_leaves (status.Rules kind row rule) net_word streams_word net streams o read took = took
@@ -269,5 +285,7 @@ nothing_left (status.Rules k row rule) net_word streams_word o gone refused befo
 nothing_left status.Memory net_word streams_word o gone refused before now a b same cause = same
 nothing_left status.Done net_word streams_word o gone refused before now a b same cause = absurd cause
 nothing_left status.Words net_word streams_word o gone refused before now a b same cause = absurd cause
+nothing_left (status.Rejected clause row) net_word streams_word o gone refused before now a b same cause = absurd cause
+nothing_left (status.Unruly line) net_word streams_word o gone refused before now a b same cause = absurd cause
 nothing_left status.WriteFault net_word streams_word o gone refused before now a b same cause = absurd cause
 nothing_left (status.Unfit u) net_word streams_word o gone refused before now a b same cause = absurd cause

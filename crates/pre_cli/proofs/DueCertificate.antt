@@ -10,7 +10,7 @@ use Rattle.pre_cli.specs.Scripts.{max_file}
 use Rattle.pre_cli.specs.Answers.{Outside}
 use Rattle.pre_cli.specs.Due.{GivesUp, TellsFiles}
 use Rattle.pre_cli.specs.Certifying.{text_named, topo_status, OfFiles, IsNetIn, NetRefused, AreBothIn, RefusedIn, GoneIn, HasBoth, CertifyingCause, pair_network}
-use Rattle.pre_cli.proofs.DueAnswers.{told_as}
+use Rattle.pre_cli.proofs.DueReadings.{told_as}
 use Rattle.pre_cli.proofs.Texts.{err_same, ok_err, some_same}
 
 pub same_text : (built_in word x y : List ℕ) (files : Files) → text_named built_in word files ≡ Some x → text_named built_in word files ≡ Some y → x ≡ y
@@ -65,6 +65,8 @@ refused_network (status.Unfit u) t net_word streams_word o told tells p cause =
     inl (refused_one net_word streams_word (status.Unfit u) t told.files p (told_as o told (OfFiles (RefusedIn net_word streams_word (status.Unfit u))) tells cause).1.0)
 refused_network status.Memory t net_word streams_word o told tells p cause = inr (inl refl)
 refused_network status.Words t net_word streams_word o told tells p cause = absurd cause
+refused_network (status.Rejected clause row) t net_word streams_word o told tells p cause = absurd cause
+refused_network (status.Unruly line) t net_word streams_word o told tells p cause = absurd cause
 
 -- ---- a network's text that isn't there
 
@@ -92,3 +94,5 @@ missing_network (status.Rules kind row rule) net_word streams_word o told tells 
 missing_network (status.Unfit u) net_word streams_word o told tells none cause =
     absurd (none_refused net_word streams_word (status.Unfit u) told.files none (told_as o told (OfFiles (RefusedIn net_word streams_word (status.Unfit u))) tells cause).1.0)
 missing_network status.Words net_word streams_word o told tells none cause = absurd cause
+missing_network (status.Rejected clause row) net_word streams_word o told tells none cause = absurd cause
+missing_network (status.Unruly line) net_word streams_word o told tells none cause = absurd cause

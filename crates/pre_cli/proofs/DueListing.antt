@@ -10,7 +10,7 @@ use Rattle.pre_cli.specs.Answers.{Outside}
 use Rattle.pre_cli.specs.Due.{GivesUp, TellsFiles}
 use Rattle.pre_cli.specs.Listed.{HasPackets, ListingCause}
 use Rattle.pre_cli.specs.DueListings.{TellsPackets, IsListingDue}
-use Rattle.pre_cli.proofs.DueAnswers.{told_as}
+use Rattle.pre_cli.proofs.DueReadings.{told_as}
 use Rattle.pre_cli.proofs.Texts.{some_same}
 
 -- the first fault is one
@@ -40,6 +40,8 @@ pub missing_packets : (s : Status) (name : List ℕ) (o : Outside) (told : Told)
 missing_packets status.ReadFault name o told tells missing cause = inl refl
 missing_packets status.Memory name o told tells missing cause = inr refl
 missing_packets status.Words name o told tells missing cause = absurd cause
+missing_packets (status.Rejected clause row) name o told tells missing cause = absurd cause
+missing_packets (status.Unruly line) name o told tells missing cause = absurd cause
 missing_packets (status.Rules kind row rule) name o told tells missing cause = absurd cause
 missing_packets (status.Unfit unfit) name o told tells missing cause = absurd cause
 missing_packets status.Done name o told tells missing cause = absurd (not_missing o name None told tells missing cause)
@@ -52,6 +54,8 @@ gave_up o name f tells (inr rose) = inr (refl, rose)
 
 pub packets_answer : (s : Status) (name : List ℕ) (fault : Option (ℕ × ℕ)) (o : Outside) → TellsPackets o name fault → ListingCause s name o → IsListingDue o fault s
 packets_answer status.Words name fault o tells cause = absurd cause
+packets_answer (status.Rejected clause row) name fault o tells cause = absurd cause
+packets_answer (status.Unruly line) name fault o tells cause = absurd cause
 packets_answer (status.Rules kind row rule) name fault o tells cause = absurd cause
 packets_answer (status.Unfit unfit) name fault o tells cause = absurd cause
 packets_answer status.Done name None o tells cause = inl refl

@@ -17,7 +17,7 @@ use Rattle.pre_cli.specs.Answers.{Outside}
 use Rattle.pre_cli.specs.Due.{GivesUp, TellsFiles}
 use Rattle.pre_cli.specs.Certifying.{text_named, stream_status, OfFiles, IsNetIn, AreStreamsIn, StreamsRefused, HasLeast, UnfitCause, AreBothIn, RefusedIn, GoneIn, HasBoth, CertifyingCause, pair_network, pair_streams}
 use Rattle.pre_cli.specs.DueCertificates.{IsCertified, IsDueForBoth, RefusesAs}
-use Rattle.pre_cli.proofs.DueAnswers.{told_as}
+use Rattle.pre_cli.proofs.DueReadings.{told_as}
 use Rattle.pre_cli.proofs.DueCertificate.{same_text, too_long, net_not, none_net}
 use Rattle.pre_cli.proofs.OneReading.{one_network, one_streams}
 use Rattle.pre_cli.proofs.Texts.{err_same, ok_err, ok_same}
@@ -103,6 +103,8 @@ module _ (net_word streams_word : List ℕ) (o : Outside) (told : Told) (tells :
     missing_streams (status.Rules kind row rule) cause = absurd (none_refused (status.Rules kind row rule) (told_as o told (OfFiles (RefusedIn net_word streams_word (status.Rules kind row rule))) tells cause).1.0)
     missing_streams (status.Unfit u) cause = absurd (none_refused (status.Unfit u) (told_as o told (OfFiles (RefusedIn net_word streams_word (status.Unfit u))) tells cause).1.0)
     missing_streams status.Words cause = absurd cause
+    missing_streams (status.Rejected clause row) cause = absurd cause
+    missing_streams (status.Unruly line) cause = absurd cause
 
   -- ---- streams that are refused
 
@@ -127,6 +129,8 @@ module _ (net_word streams_word : List ℕ) (o : Outside) (told : Told) (tells :
     refused_as_due (status.Unfit u) cause = inl (refused_one (status.Unfit u) (told_as o told (OfFiles (RefusedIn net_word streams_word (status.Unfit u))) tells cause).1.0)
     refused_as_due status.Memory cause = inr (inl refl)
     refused_as_due status.Words cause = absurd cause
+    refused_as_due (status.Rejected clause row) cause = absurd cause
+    refused_as_due (status.Unruly line) cause = absurd cause
 
   -- ---- both are read
 
@@ -157,6 +161,8 @@ module _ (net_word streams_word : List ℕ) (o : Outside) (told : Told) (tells :
     due_for_both (status.Unfit u) cause = refused_in (status.Unfit u) (told_as o told (OfFiles (RefusedIn net_word streams_word (status.Unfit u))) tells cause).1.0
     due_for_both status.Memory cause = inr (inr (inl refl))
     due_for_both status.Words cause = absurd cause
+    due_for_both (status.Rejected clause row) cause = absurd cause
+    due_for_both (status.Unruly line) cause = absurd cause
 
     pub good_is_certified : HasGood net streams → (s : Status) → CertifyingCause s net_word streams_word o → IsCertified o s ⊎ GivesUp o s
     good_is_certified good s cause =

@@ -8,9 +8,17 @@ pub mod OneTrace
 pub mod PacketLines
 pub mod ListLemmas
 pub mod DueListing
-mod CertifyLemmas
-mod ReplayLemmas
+pub mod CertifyLemmas
+pub mod ReplayLemmas
 mod CanRuns
 pub mod DueCertificate
 pub mod OneReading
 pub mod DueStreams
+pub mod ReadingLemmas
+pub mod JudgeLemmas
+pub mod DueReadings
+pub mod DueTexts
+pub mod DueVerdicts
+pub mod CurveLemmas
+pub mod HeadlineLemmas
+pub mod DueReplaying

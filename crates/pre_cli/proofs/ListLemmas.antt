@@ -109,6 +109,8 @@ flushed_leaves status.WriteFault octets arrivals a b c due took ends =
         (length arrivals, text, [], subst (λ (l : List (List ℕ)). IsListing l text) (sym (take-length arrivals)) listing, (text, sym (append-nil text), took))
 flushed_leaves status.Memory octets arrivals a b c due took ends = absurd ends
 flushed_leaves status.Words octets arrivals a b c due took ends = absurd ends
+flushed_leaves (status.Rejected clause row) octets arrivals a b c due took ends = absurd ends
+flushed_leaves (status.Unruly line) octets arrivals a b c due took ends = absurd ends
 flushed_leaves status.ReadFault octets arrivals a b c due took ends = absurd ends
 flushed_leaves (status.Rules kind row rule) octets arrivals a b c due took ends = absurd ends
 flushed_leaves (status.Unfit cause) octets arrivals a b c due took ends = absurd ends

@@ -1,55 +1,37 @@
 -- What the parts of the command that runs a script answer, as answers of the whole.
-use Rattle.std.proofs.Common.{◌≡◌, inl, inr, ℕ, ◌≤◌, List, Option, None, Some, Result, Ok, Err, refl, sym, subst, arith}
-use Rattle.std.specs.Prelude.{IfErr}
-use Rattle.std.specs.Result.{IsErr, IsErrAnd}
-use Rattle.std.specs.FinMap.{get}
-use Rattle.pre_base.specs.Told.{WhereTold}
-use Rattle.pre_base.specs.Shelves.{Told, Files}
+use Rattle.std.proofs.Common.{◌≡◌, ◌+◌, inl, inr, ℕ, List, Option, Result, Ok, Err, None, refl, sym, subst}
+use Rattle.pre_base.specs.Told.{WhereTold, WhereTold-map}
+use Rattle.pre_base.specs.Shelves.{Told}
+use Rattle.pre_base.specs.Sinks.{Taken}
 use Rattle.pre_topo.specs.declared.network.Network.{Network}
 use Rattle.pre_streams.specs.declared.rows.Streams.{Streams}
+use Rattle.pre_bound.specs.Listed.{GoodCertificate}
 use Rattle.pre_script.specs.declared.scripts.Script.{Script}
 use Rattle.pre_script.specs.declared.scripts.ScriptFault.{ScriptFault}
 use Rattle.pre_script.specs.declared.scripts.ScriptFault.TheVariants.{Fault, Memory}
 use Rattle.pre_script.specs.Reading.{script_of, ReadsAs}
-use Rattle.pre_history.specs.Scenario.{Scenario}
+use Rattle.pre_history.specs.History.{History}
+use Rattle.pre_history.specs.Legal.{Legal}
+use Rattle.pre_delay.specs.Runs.{IsRun}
+use Rattle.pre_delay.specs.Timely.{Timely}
 use Rattle.pre_cli.specs.declared.statuses.FileWord.TheVariants as file
 use Rattle.pre_cli.specs.declared.statuses.Status.{Status}
 use Rattle.pre_cli.specs.declared.statuses.Status.TheVariants as status
 use Rattle.pre_cli.specs.Answers.{Outside}
-use Rattle.pre_cli.specs.Certifying.{pair_network, pair_streams, text_named, OfFiles, IsGone, IsFileIn, IsNoFile, AreStreamsIn, StreamsRefused, InPlace}
-use Rattle.pre_cli.specs.Replaying.{script_status, IsRunNetIn, RunNetRefused, IsScriptIn, ScriptRefused, IsScenarioIn, RefusedIn, GoneIn, ReplayingCause, ReplayingLeaves}
+use Rattle.pre_cli.specs.Certifying.{OfFiles, IsFileIn, IsNoFile, InPlace}
+use Rattle.pre_cli.specs.Curves.{CurvesHold}
+use Rattle.pre_cli.specs.Headline.{Headline}
+use Rattle.pre_cli.specs.Judging.{network_in, certified_in}
+use Rattle.pre_cli.specs.Negotiating.{first_negotiating_link}
+use Rattle.pre_cli.specs.Readings.{Reading, Instead, Gave, AnswerCause}
+use Rattle.pre_cli.specs.Replaying.{NegotiatesAt, run_network_in, script_status, ScriptRefused, script_in, Replay, scenario_in, certificate_in, planned_in, scripted_in, IsUnrulyAt, replaying, ReplayingLeaves}
 use Rattle.pre_cli.specs.Runs.{RunEnds, RunCause}
 use Rattle.pre_cli.specs.Words.{ReplayWords}
-use Rattle.pre_cli.proofs.CertifyLemmas.{of_more, of_both}
-
--- ---- an answer that is handed on
-
-pub handed_on : {T : Type 0} (r : Result T Status) (s : Status) (P : Status → Type 0) → IsErr r → IsErrAnd r (λ f. f ≡ s) → P s → IfErr r P
-handed_on (Ok x) s P is same p = tt
-handed_on (Err f) s P is same p = subst P (sym same) p
-
--- ---- a text behind others
-
-gone_behind : (P : Files → Type 0) (gone all_gone : Option Told → Type 0) → ((x y : Told) → P x.files → y.files ≡ x.files → gone (Some y) → all_gone (Some x)) → (gone None → all_gone None)
-    → (a b : Option Told) → WhereTold a b (OfFiles P) → gone b → all_gone a
-gone_behind P gone all_gone f none None None read is = none is
-gone_behind P gone all_gone f none None (Some y) read is = absurd read
-gone_behind P gone all_gone f none (Some x) None read is = absurd read
-gone_behind P gone all_gone f none (Some x) (Some y) read is = f x y read.0 read.1 is
-
--- what is in the place of a text that is read after others is in the place of all
-behind : (s : Status) (P : Files → Type 0) (gone all_gone : Option Told → Type 0) (refused all_refused : Status → Files → Type 0) (before between now : ℕ) (a b d : Option Told) → before ≤ between
-    → ((x y : Told) → P x.files → y.files ≡ x.files → gone (Some y) → all_gone (Some x)) → (gone None → all_gone None) → ((files : Files) → P files → refused s files → all_refused s files)
-    → WhereTold a b (OfFiles P) → InPlace s gone refused between now b d → InPlace s all_gone all_refused before now a d
-behind status.ReadFault P gone all_gone refused all_refused before between now a b d later f none g read (inl is) = inl (gone_behind P gone all_gone f none a b read is)
-behind status.ReadFault P gone all_gone refused all_refused before between now a b d later f none g read (inr rose) = inr (omega (arith, later, rose))
-behind (status.Form k line rule) P gone all_gone refused all_refused before between now a b d later f none g read cause = of_both a b d P (refused (status.Form k line rule)) (all_refused (status.Form k line rule)) g read cause
-behind (status.Rules k row rule) P gone all_gone refused all_refused before between now a b d later f none g read cause = of_both a b d P (refused (status.Rules k row rule)) (all_refused (status.Rules k row rule)) g read cause
-behind status.Memory P gone all_gone refused all_refused before between now a b d later f none g read cause = tt
-behind status.Done P gone all_gone refused all_refused before between now a b d later f none g read cause = absurd cause
-behind status.Words P gone all_gone refused all_refused before between now a b d later f none g read cause = absurd cause
-behind status.WriteFault P gone all_gone refused all_refused before between now a b d later f none g read cause = absurd cause
-behind (status.Unfit u) P gone all_gone refused all_refused before between now a b d later f none g read cause = absurd cause
+use Rattle.pre_cli.specs.Written.{TakesTrace, TakesTextFront}
+use Rattle.pre_cli.proofs.CertifyLemmas.{of_more}
+use Rattle.pre_cli.proofs.HeadlineLemmas.{headline}
+use Rattle.pre_cli.proofs.JudgeLemmas.{certified_refusing}
+use Rattle.pre_cli.proofs.ReadingLemmas.{gone_file, text_instead, IsInstead, Refusing, text_refusing, then_refusing, tested_refusing, is_instead}
 
 -- ---- a script
 
@@ -64,69 +46,81 @@ script_refused (Fault line rule) word text net streams before now a b due is = b
   where
     by : (r : Result Script (ℕ × ℕ)) → r ≡ script_of net streams text → ReadsAs (Err (Fault line rule)) r → WhereTold a b (OfFiles (ScriptRefused word net streams (status.Form file.Script line rule)))
     by (Ok script) same due = absurd due
-    by (Err place) same due =
-        script_fault word text net streams place (status.Form file.Script line rule) a b (sym same) (subst (λ (l : ℕ). status.Form file.Script line rule ≡ status.Form file.Script l place.1) due.0 (subst (λ (r : ℕ). status.Form file.Script line rule ≡ status.Form file.Script line r) due.1 refl)) is
+    by (Err place) same due = script_fault word text net streams place (status.Form file.Script line rule) a b (sym same) (λ i. status.Form file.Script (due.0 i) (due.1 i)) is
+
+pub script_instead : (word : List ℕ) (net : Network) (streams : Streams) (s : Status) (before now : ℕ) (a b : Option Told) → InPlace s (IsNoFile word) (ScriptRefused word net streams) before now a b
+    → Instead (script_in word net streams) s before now a b
+script_instead word net streams s before now a b = text_instead (script_in word net streams) (IsNoFile word) s before now a b (gone_file word) (λ p. p)
+
+-- ---- which answers may come
+
+negotiating_refusing : (net : Network) (s : Status) → NegotiatesAt net s → IsInstead s
+negotiating_refusing net s (link, at, is) = subst IsInstead (sym is) tt
+
+unruly_refusing : (x : Replay) (s : Status) → IsUnrulyAt x s → IsInstead s
+unruly_refusing x s (line, breaks, is) = subst IsInstead (sym is) tt
+
+pub replaying_refusing : (words : ReplayWords) → Refusing (replaying words)
+replaying_refusing words =
+    tested_refusing (scripted_in words) (λ x. CurvesHold x.0.1.0.rows x.1.sends) IsUnrulyAt
+    (then_refusing (planned_in words.plan) (λ x. script_in words.script x.0 x.1.0)
+    (then_refusing (run_network_in words.plan.net) (certified_in words.plan.streams words.plan.certificate)
+    (tested_refusing (network_in words.plan.net) (λ net. first_negotiating_link net.arcs ≡ None) NegotiatesAt text_refusing negotiating_refusing)
+    (certified_refusing words.plan.streams words.plan.certificate))
+    (λ x. text_refusing))
+    unruly_refusing
 
 -- ---- the command
 
-module _ (words : ReplayWords) where
-  pub net_cause : (s : Status) (before now : ℕ) (a b : Option Told) → InPlace s (IsGone pair_network words.net) (RunNetRefused words.net) before now a b → InPlace s (GoneIn words) (RefusedIn words) before now a b
-  net_cause status.ReadFault before now None b (inl gone) = absurd gone
-  net_cause status.ReadFault before now (Some told) b (inl gone) = inl (inl gone)
-  net_cause status.ReadFault before now a b (inr rose) = inr rose
-  net_cause (status.Form k line rule) before now a b cause = of_more a b (RunNetRefused words.net (status.Form k line rule)) (RefusedIn words (status.Form k line rule)) (λ files p. inl p) cause
-  net_cause (status.Rules k row rule) before now a b cause = of_more a b (RunNetRefused words.net (status.Rules k row rule)) (RefusedIn words (status.Rules k row rule)) (λ files p. inl p) cause
-  net_cause status.Memory before now a b cause = tt
-  net_cause status.Done before now a b cause = absurd cause
-  net_cause status.Words before now a b cause = absurd cause
-  net_cause status.WriteFault before now a b cause = absurd cause
-  net_cause (status.Unfit u) before now a b cause = absurd cause
+module _ (words : ReplayWords) (o : Outside) where
+  -- nothing is run, and the sink is left alone
+  pub nothing_run : (s : Status) → Instead (replaying words) s o.shelf_before o.shelf_after o.told_before o.told_after → o.taken_after ≡ o.taken_before → ReplayingLeaves words s o
+  nothing_run s cause same =
+      let is = is_instead (replaying words) s o.shelf_before o.shelf_after o.told_before o.told_after (replaying_refusing words) cause in
+      record { done = λ e. absurd (subst IsInstead e is); torn = λ e. absurd (subst IsInstead e is); stopped = λ e. inl same; nothing = λ p q r. same }
 
-  pub streams_cause : (s : Status) (net : Network) (before between now : ℕ) (a b d : Option Told) → before ≤ between → WhereTold a b (OfFiles (IsRunNetIn words.net net))
-      → InPlace s (IsGone pair_streams words.streams) (StreamsRefused words.streams net) between now b d → InPlace s (GoneIn words) (RefusedIn words) before now a d
-  streams_cause s net before between now a b d later =
-      behind s (IsRunNetIn words.net net) (IsGone pair_streams words.streams) (GoneIn words) (StreamsRefused words.streams net) (RefusedIn words) before between now a b d later
-      (λ x y p same none. inr (inl (net, p, subst (λ (files : Files). text_named pair_streams words.streams files ≡ None) same none)))
-      (λ none. none)
-      (λ files p r. inr (inl (net, p, r)))
-
-  -- both are read
-  abbrev AreRead : Network → Streams → Files → Type 0
-  AreRead net streams files = IsRunNetIn words.net net files × AreStreamsIn words.streams net streams files
-
-  pub both_read : (net : Network) (streams : Streams) (a b d : Option Told) → WhereTold a b (OfFiles (IsRunNetIn words.net net)) → WhereTold b d (OfFiles (AreStreamsIn words.streams net streams)) → WhereTold a d (OfFiles (AreRead net streams))
-  both_read net streams a b d = of_both a b d (IsRunNetIn words.net net) (AreStreamsIn words.streams net streams) (AreRead net streams) (λ files p q. (p, q))
-
-  pub script_cause : (s : Status) (net : Network) (streams : Streams) (before between now : ℕ) (a b d : Option Told) → before ≤ between → WhereTold a b (OfFiles (AreRead net streams))
-      → InPlace s (IsNoFile words.script) (ScriptRefused words.script net streams) between now b d → InPlace s (GoneIn words) (RefusedIn words) before now a d
-  script_cause s net streams before between now a b d later =
-      behind s (AreRead net streams) (IsNoFile words.script) (GoneIn words) (ScriptRefused words.script net streams) (RefusedIn words) before between now a b d later
-      (λ x y p same none. inr (inr (net, streams, p.0, p.1, subst (λ (files : Files). get files words.script ≡ None) same none)))
-      (λ none. none)
-      (λ files p r. inr (inr (net, streams, p.0, p.1, r)))
-
-  pub all_read : (w : Scenario) (a b d : Option Told) → WhereTold a b (OfFiles (AreRead w.net w.streams)) → WhereTold b d (OfFiles (IsScriptIn words.script w.net w.streams w.script)) → WhereTold a d (OfFiles (IsScenarioIn words w))
-  all_read w a b d = of_both a b d (AreRead w.net w.streams) (IsScriptIn words.script w.net w.streams w.script) (IsScenarioIn words w) (λ files p q. (p.0, p.1, q))
-
-  -- ---- the run, as the whole
-
-  module _ (w : Scenario) (o : Outside) (read : WhereTold o.told_before o.told_after (OfFiles (IsScenarioIn words w))) where
-    pub run_cause : (s : Status) → RunCause s o.sink_before o.sink_after → ReplayingCause s words o
-    run_cause status.Done cause = (w, read)
-    run_cause status.WriteFault cause = (cause.1, (w, read))
-    run_cause status.Memory cause = tt
+  module _ (x : Replay) (given : Gave (replaying words) o x) where
+    pub run_cause : (s : Status) → RunCause s o.sink_before o.sink_after → AnswerCause (replaying words) s o
+    run_cause status.Done cause = inl ((x, given), inl refl)
+    run_cause status.WriteFault cause = inl ((x, given), inr (refl, cause.1))
+    run_cause status.Memory cause = inr (inr (inr refl))
     run_cause status.Words cause = absurd cause
     run_cause status.ReadFault cause = absurd cause
     run_cause (status.Rules kind row rule) cause = absurd cause
     run_cause (status.Unfit u) cause = absurd cause
+    run_cause (status.Rejected clause row) cause = absurd cause
+    run_cause (status.Unruly line) cause = absurd cause
     run_cause (status.Form kind line rule) cause = absurd cause
 
-    pub run_leaves : (s : Status) → RunEnds w s o.taken_before o.taken_after → ReplayingLeaves s words o
-    run_leaves status.Done ends = (w, read, ends)
-    run_leaves status.WriteFault ends = (w, read, ends)
-    run_leaves status.Memory ends = inr (w, read, ends)
-    run_leaves status.Words ends = absurd ends
-    run_leaves status.ReadFault ends = absurd ends
-    run_leaves (status.Rules kind row rule) ends = absurd ends
-    run_leaves (status.Unfit u) ends = absurd ends
-    run_leaves (status.Form kind line rule) ends = absurd ends
+    -- of the trace the headline holds
+    module _ (run : IsRun (scenario_in x)) (good : GoodCertificate x.0.0 x.0.1.0 x.0.1.1)
+        (timely : (h : History) → Legal (scenario_in x) h → Timely (scenario_in x) h (x.1.until.0 + 1) good.values) where
+      trace_headline : (a b : Taken) → TakesTrace (scenario_in x) a b → Headline (scenario_in x) (certificate_in x) a b
+      trace_headline a b ((h, legal, once, written, octets), flushed) = headline (scenario_in x) (certificate_in x) run good h once (timely h legal) a b legal written octets flushed
+
+      pub run_leaves : (s : Status) → RunEnds (scenario_in x) s o.taken_before o.taken_after → ReplayingLeaves words s o
+      run_leaves status.Done ends = record {
+        done = λ e. (x, given, WhereTold-map o.taken_before o.taken_after (TakesTrace (scenario_in x)) (Headline (scenario_in x) (certificate_in x)) trace_headline ends);
+        torn = λ e. absurd (cc);
+        stopped = λ e. absurd (cc);
+        nothing = λ p q r. absurd (p refl);
+      }
+      run_leaves status.WriteFault ends = record {
+        done = λ e. absurd (cc);
+        torn = λ e. (x, given, ends);
+        stopped = λ e. absurd (cc);
+        nothing = λ p q r. absurd (q refl);
+      }
+      run_leaves status.Memory ends = record {
+        done = λ e. absurd (cc);
+        torn = λ e. absurd (cc);
+        stopped = λ e. inr (x, given, ends);
+        nothing = λ p q r. absurd (r refl);
+      }
+      run_leaves status.Words ends = absurd ends
+      run_leaves status.ReadFault ends = absurd ends
+      run_leaves (status.Rules kind row rule) ends = absurd ends
+      run_leaves (status.Unfit u) ends = absurd ends
+      run_leaves (status.Rejected clause row) ends = absurd ends
+      run_leaves (status.Unruly line) ends = absurd ends
+      run_leaves (status.Form kind line rule) ends = absurd ends

@@ -11,7 +11,7 @@ use Rattle.pre_history.proofs.WrittenEvents.{IsWritten-of, AreWritten-of}
 use Rattle.pre_trace.specs.Text.{line, text}
 use Rattle.pre_trace.specs.Watching.{HoldsText, HoldsTorn}
 use Rattle.pre_history.specs.Deliveries.{DeliversOnce}
-use Rattle.pre_history.specs.Legal.{Legal, LegalUpTo}
+use Rattle.pre_history.specs.Legal.{Legal, LegalBefore}
 use Rattle.pre_sim.specs.declared.runs.Step.{Step}
 use Rattle.pre_sim.specs.declared.runs.Step.TheVariants.{More, Ended, Alias, Stopped, Memory}
 use Rattle.pre_sim.specs.Parts.{IsFrontOfLegal}
@@ -32,11 +32,11 @@ taken net x y es told = told.1 x.octets [] (λ _. sym (append-nil x.octets)) (Ar
 -- legal histories deliver what was sent, once
 pub record DeliverOnce (w : Scenario) : Type 0 where
   pub whole : (h : History) → Legal w h → DeliversOnce w h
-  pub so_far : (n : ℕ) (h : History) → LegalUpTo w n h → DeliversOnce w h
+  pub so_far : (n : ℕ) (h : History) → LegalBefore w h n → DeliversOnce w h
 
 delivers : (w : Scenario) → DeliverOnce w → (h : History) → IsLegalSoFar w h → DeliversOnce w h
 delivers w once h (inl legal) = once.whole h legal
-delivers w once h (inr (n, legal)) = once.so_far n h legal.0
+delivers w once h (inr (n, legal)) = once.so_far n h legal
 
 module _ (w : Scenario) (once : DeliverOnce w) where
   whole_text : (a b : Option Taken) → StillTells a b → (es : History) → TellsAll w.net (HoldsText w.net a) (HoldsText w.net b) es → Legal w es → WhereTold a b (TakesText w)
@@ -89,6 +89,9 @@ module _ (w : Scenario) (once : DeliverOnce w) where
         front_text a b still es (subst (λ (v : Scenario). TellsAll v.net (HoldsText w.net a) (HoldsText w.net b) es) same told) (subst (λ (v : Scenario). IsFrontOfLegal v es) same (front [] begun))
 
 -- nothing was told yet
+nothing_legal : (w : Scenario) → LegalBefore w [] 0
+nothing_legal w = (refl, λ a k d lt. absurd (omega (arith, lt)))
+
 pub nothing_left : (w : Scenario) → DeliverOnce w → (a : Option Taken) → WhereTold a a (TakesTextFront w)
 nothing_left w once None = tt
-nothing_left w once (Some x) = ([], [], inr (0, (refl, λ a k d lt. absurd (omega (arith, lt)))), once.so_far 0 [] refl, ([], refl, sym (append-nil x.octets)))
+nothing_left w once (Some x) = ([], [], inr (0, nothing_legal w), once.so_far 0 [] (nothing_legal w), ([], refl, sym (append-nil x.octets)))

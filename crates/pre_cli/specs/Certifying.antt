@@ -54,10 +54,14 @@ pub record IsTextIn (built_in word text : List ℕ) (files : Files) : Type 0 whe
 abbrev pub OfFiles : (Files → Type 0) → Told → Told → Type 0
 OfFiles P old new = P old.files × (new.files ≡ old.files)
 
+-- told files lack a text
+abbrev pub GoneFrom : (Files → Type 0) → Option Told → Type 0
+GoneFrom gone None = ⊥
+GoneFrom gone (Some told) = gone told.files
+
 -- told files have no text for the word
 abbrev pub IsGone : List ℕ → List ℕ → Option Told → Type 0
-IsGone built_in word None = ⊥
-IsGone built_in word (Some told) = text_named built_in word told.files ≡ None
+IsGone built_in word = GoneFrom (λ files. text_named built_in word files ≡ None)
 
 -- the file of this name is this text, which isn't too long
 abbrev pub IsFileIn : List ℕ → List ℕ → Files → Type 0
@@ -125,6 +129,8 @@ InPlace (status.Rules kind row rule) gone refused before now old new = WhereTold
 InPlace status.Memory gone refused before now old new = Unit {0}
 InPlace status.Done gone refused before now old new = ⊥
 InPlace status.Words gone refused before now old new = ⊥
+InPlace (status.Rejected clause row) gone refused before now old new = ⊥
+InPlace (status.Unruly line) gone refused before now old new = ⊥
 InPlace status.WriteFault gone refused before now old new = ⊥
 InPlace (status.Unfit cause) gone refused before now old new = ⊥
 
@@ -161,6 +167,8 @@ CertifiedCause status.WriteFault net streams before now = Rose before now × Has
 CertifiedCause (status.Unfit cause) net streams before now = UnfitCause cause net streams
 CertifiedCause status.Memory net streams before now = Unit {0}
 CertifiedCause status.Words net streams before now = ⊥
+CertifiedCause (status.Rejected clause row) net streams before now = ⊥
+CertifiedCause (status.Unruly line) net streams before now = ⊥
 CertifiedCause status.ReadFault net streams before now = ⊥
 CertifiedCause (status.Form kind line rule) net streams before now = ⊥
 CertifiedCause (status.Rules kind row rule) net streams before now = ⊥
@@ -176,6 +184,8 @@ CertifiedLeaves status.WriteFault net streams old new = (c : Certificate) × IsL
 CertifiedLeaves (status.Unfit cause) net streams old new = new ≡ old
 CertifiedLeaves status.Memory net streams old new = new ≡ old
 CertifiedLeaves status.Words net streams old new = new ≡ old
+CertifiedLeaves (status.Rejected clause row) net streams old new = new ≡ old
+CertifiedLeaves (status.Unruly line) net streams old new = new ≡ old
 CertifiedLeaves status.ReadFault net streams old new = new ≡ old
 CertifiedLeaves (status.Form kind line rule) net streams old new = new ≡ old
 CertifiedLeaves (status.Rules kind row rule) net streams old new = new ≡ old
@@ -215,6 +225,8 @@ CertifyingCause (status.Rules kind row rule) net_word streams_word o = WhereTold
 CertifyingCause (status.Unfit cause) net_word streams_word o = WhereTold o.told_before o.told_after (OfFiles (RefusedIn net_word streams_word (status.Unfit cause)))
 CertifyingCause status.Memory net_word streams_word o = Unit {0}
 CertifyingCause status.Words net_word streams_word o = ⊥
+CertifyingCause (status.Rejected clause row) net_word streams_word o = ⊥
+CertifyingCause (status.Unruly line) net_word streams_word o = ⊥
 
 -- the sink took this of what the two texts give
 abbrev pub OfBoth : List ℕ → List ℕ → Outside → (Network → Streams → Type 0) → Type 0
@@ -231,3 +243,5 @@ CertifyingLeaves (status.Rules kind row rule) net_word streams_word o = o.taken_
 CertifyingLeaves (status.Unfit cause) net_word streams_word o = o.taken_after ≡ o.taken_before
 CertifyingLeaves status.Memory net_word streams_word o = o.taken_after ≡ o.taken_before
 CertifyingLeaves status.Words net_word streams_word o = o.taken_after ≡ o.taken_before
+CertifyingLeaves (status.Rejected clause row) net_word streams_word o = o.taken_after ≡ o.taken_before
+CertifyingLeaves (status.Unruly line) net_word streams_word o = o.taken_after ≡ o.taken_before

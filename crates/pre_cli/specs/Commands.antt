@@ -5,7 +5,10 @@ use Rattle.pre_cli.specs.declared.statuses.Status.{Status}
 use Rattle.pre_cli.specs.declared.statuses.Status.TheVariants as status
 use Rattle.pre_cli.specs.Words.{ReplayWords, replay_named}
 use Rattle.pre_cli.specs.Answers.{Outside}
-use Rattle.pre_cli.specs.Replaying.{ReplayingCause, ReplayingLeaves}
+use Rattle.pre_cli.specs.Replaying.{replaying, ReplayingLeaves}
+use Rattle.pre_cli.specs.Readings.{AnswerCause, AnswerLeaves}
+use Rattle.pre_cli.specs.Judging.{judging, Accepts, AcceptsFront, Migrates, MigratesFront}
+use Rattle.pre_cli.specs.Words.{JudgeWords, judge_named}
 use Rattle.pre_cli.specs.Listed.{ListingCause, ListingLeaves}
 use Rattle.pre_cli.specs.Certifying.{CertifyingCause, CertifyingLeaves}
 
@@ -23,6 +26,8 @@ files_named _ = None
 pub data Command : Type 0 where
   certifies : List ℕ → List ℕ → Command
   lists : List ℕ → Command
+  judges : JudgeWords → Command
+  migrates : JudgeWords → Command
   replays : ReplayWords → Command
   unknown : Command
 
@@ -30,9 +35,17 @@ abbrev pub replaying_or : Option ReplayWords → Command
 replaying_or (Some words) = replays words
 replaying_or None = unknown
 
+abbrev pub migrating_or : Option JudgeWords → List (List ℕ) → Command
+migrating_or (Some files) words = migrates files
+migrating_or None words = replaying_or (replay_named words)
+
+abbrev pub judging_or : Option JudgeWords → List (List ℕ) → Command
+judging_or (Some files) words = judges files
+judging_or None words = migrating_or (judge_named (codes "migrate") words) words
+
 abbrev pub listing_or : Option (List ℕ) → List (List ℕ) → Command
 listing_or (Some name) words = lists name
-listing_or None words = replaying_or (replay_named words)
+listing_or None words = judging_or (judge_named (codes "judge") words) words
 
 abbrev pub certifying_or : Option (List ℕ × List ℕ) → List (List ℕ) → Command
 certifying_or (Some files) words = certifies files.0 files.1
@@ -45,7 +58,9 @@ command_of words = certifying_or (files_named words) words
 abbrev pub CauseBy : Command → Status → Outside → Type 0
 CauseBy (certifies net streams) s o = CertifyingCause s net streams o
 CauseBy (lists name) s o = ListingCause s name o
-CauseBy (replays words) s o = ReplayingCause s words o
+CauseBy (judges words) s o = AnswerCause (judging words) s o
+CauseBy (migrates words) s o = AnswerCause (judging words) s o
+CauseBy (replays words) s o = AnswerCause (replaying words) s o
 CauseBy unknown s o = s ≡ status.Words
 
 abbrev pub CauseOf : Status → List (List ℕ) → Outside → Type 0
@@ -55,7 +70,9 @@ CauseOf s words o = CauseBy (command_of words) s o
 abbrev pub LeavesBy : Command → Status → Outside → Type 0
 LeavesBy (certifies net streams) s o = CertifyingLeaves s net streams o
 LeavesBy (lists name) s o = ListingLeaves s name o o.taken_before o.taken_after
-LeavesBy (replays words) s o = ReplayingLeaves s words o
+LeavesBy (judges words) s o = AnswerLeaves (judging words) Accepts AcceptsFront s o
+LeavesBy (migrates words) s o = AnswerLeaves (judging words) Migrates MigratesFront s o
+LeavesBy (replays words) s o = ReplayingLeaves words s o
 LeavesBy unknown s o = o.taken_after ≡ o.taken_before
 
 abbrev pub LeavesOf : Status → List (List ℕ) → Outside → Type 0

@@ -9,9 +9,13 @@ pub mod PacketFiles
 pub mod Listing
 pub mod Listed
 pub mod Certifying
+pub mod Readings
+pub mod Putting
+pub mod Judging
 pub mod Negotiating
+pub mod Curves
+pub mod Headline
 pub mod Replaying
 pub mod Commands
 pub mod DueListings
 pub mod DueCertificates
-pub mod DueReplays

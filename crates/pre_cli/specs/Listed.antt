@@ -66,6 +66,8 @@ IsFileCause _ name before now old new = ⊥
 -- the cause of each answer; want of memory is free
 abbrev pub ListingCause : Status → List ℕ → Outside → Type 0
 ListingCause status.Words name o = ⊥
+ListingCause (status.Rejected clause row) name o = ⊥
+ListingCause (status.Unruly line) name o = ⊥
 ListingCause (status.Rules kind row rule) name o = ⊥
 ListingCause (status.Unfit unfit) name o = ⊥
 ListingCause status.ReadFault name o = IsMissing o.told_before name ⊎ Rose o.shelf_before o.shelf_after

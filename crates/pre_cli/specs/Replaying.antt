@@ -1,13 +1,12 @@
--- What the command that runs a script reads, answers and leaves.
-use Rattle.std.specs.Prelude.{◌≡◌, ◌⊎◌, ℕ, List, Option, Some, None, Ok, Err}
+-- What the command that runs a script under a certificate reads, answers and leaves.
+use Rattle.std.specs.Prelude.{◌≡◌, ◌≢◌, ◌⊎◌, ℕ, List, Some, None, Ok, Err}
 use Rattle.std.specs.FinMap.{get}
-use Rattle.pre_base.specs.Faults.{Rose}
-use Rattle.pre_base.specs.Told.{WhereTold}
-use Rattle.pre_base.specs.Shelves.{Told, Files}
+use Rattle.pre_base.specs.Shelves.{Files}
 use Rattle.pre_base.specs.Sinks.{Taken}
 use Rattle.pre_base.specs.declared.numbers.FileRow.TheVariants.{Link}
 use Rattle.pre_topo.specs.declared.network.Network.{Network}
 use Rattle.pre_streams.specs.declared.rows.Streams.{Streams}
+use Rattle.pre_bound.specs.declared.certificate.Certificate.{Certificate}
 use Rattle.pre_script.specs.declared.scripts.Script.{Script}
 use Rattle.pre_script.specs.declared.scripts.ScriptFault.{ScriptFault}
 use Rattle.pre_script.specs.declared.scripts.ScriptFault.TheVariants.{Fault, Memory}
@@ -17,26 +16,31 @@ use Rattle.pre_cli.specs.declared.statuses.FileWord.TheVariants as file
 use Rattle.pre_cli.specs.declared.statuses.Status.{Status}
 use Rattle.pre_cli.specs.declared.statuses.Status.TheVariants as status
 use Rattle.pre_cli.specs.Answers.{Outside}
-use Rattle.pre_cli.specs.Words.{ReplayWords}
-use Rattle.pre_cli.specs.Certifying.{pair_network, pair_streams, text_named, OfFiles, IsFileIn, IsLongFile, IsNetIn, NetRefused, AreStreamsIn, StreamsRefused}
+use Rattle.pre_cli.specs.Certifying.{IsFileIn, IsLongFile}
+use Rattle.pre_cli.specs.Curves.{CurvesHold, IsUnruly}
+use Rattle.pre_cli.specs.Headline.{Headline}
+use Rattle.pre_cli.specs.Judging.{network_in, certified_in}
+use Rattle.pre_cli.specs.Words.{JudgeWords}
 use Rattle.pre_cli.specs.Negotiating.{first_negotiating_link}
-use Rattle.pre_cli.specs.Written.{TakesTrace, TakesTextFront}
+use Rattle.pre_cli.specs.Readings.{Reading, then_read, tested, IsTextAnswer, Took}
+use Rattle.pre_cli.specs.Words.{ReplayWords}
+use Rattle.pre_cli.specs.Written.{TakesTextFront}
 
--- ---- what the words stand for
+-- ---- a network to run over
 
 -- the answer to a network with such a link, for now
 abbrev pub negotiating_status : ℕ → Status
 negotiating_status link = status.Rules file.Net (Link link) 5
 
--- the word stands for this network, of which no link negotiates
-abbrev pub IsRunNetIn : List ℕ → Network → Files → Type 0
-IsRunNetIn word net files = IsNetIn word net files × (first_negotiating_link net.arcs ≡ None)
+-- a link of the network negotiates, and this is the answer
+abbrev pub NegotiatesAt : Network → Status → Type 0
+NegotiatesAt net s = (link : ℕ) × (first_negotiating_link net.arcs ≡ Some link) × (s ≡ negotiating_status link)
 
--- its text is refused, or it is a network with a link that negotiates; and this is the answer
-abbrev pub RunNetRefused : List ℕ → Status → Files → Type 0
-RunNetRefused word s files =
-    NetRefused word s files
-    ⊎ ((net : Network) × (link : ℕ) × IsNetIn word net files × (first_negotiating_link net.arcs ≡ Some link) × (s ≡ negotiating_status link))
+-- a network of which no link negotiates, since no run knows such links yet
+abbrev pub run_network_in : List ℕ → Reading Network
+run_network_in word = tested (network_in word) (λ net. first_negotiating_link net.arcs ≡ None) NegotiatesAt
+
+-- ---- a script
 
 abbrev pub script_status : ScriptFault → Status
 script_status (Fault line rule) = status.Form file.Script line rule
@@ -52,59 +56,48 @@ ScriptRefused word net streams s files =
     IsLongFile file.Script word s files
     ⊎ ((text : List ℕ) × IsFileIn word text files × ((place : ℕ × ℕ) × (script_of net streams text ≡ Err place) × (s ≡ status.Form file.Script place.0 place.1)))
 
--- the words stand for this network, these streams for it, and this script for both
-abbrev pub IsScenarioIn : ReplayWords → Scenario → Files → Type 0
-IsScenarioIn words w files =
-    IsRunNetIn words.net w.net files × AreStreamsIn words.streams w.net w.streams files × IsScriptIn words.script w.net w.streams w.script files
+abbrev pub script_in : List ℕ → Network → Streams → Reading Script
+script_in word net streams = record {
+  gone = λ files. get files word ≡ None;
+  refused = ScriptRefused word net streams;
+  gives = IsScriptIn word net streams;
+  may = IsTextAnswer;
+}
 
--- ---- the command
+-- ---- all of it
 
--- the network is refused; or it's read, and the streams are refused; or these are read too, and the script is refused
-abbrev pub RefusedIn : ReplayWords → Status → Files → Type 0
-RefusedIn words s files =
-    RunNetRefused words.net s files
-    ⊎ ((net : Network) × IsRunNetIn words.net net files × StreamsRefused words.streams net s files)
-    ⊎ ((net : Network) × (streams : Streams) × IsRunNetIn words.net net files × AreStreamsIn words.streams net streams files × ScriptRefused words.script net streams s files)
+-- a network, streams, a certificate for them, and a script
+abbrev pub Replay : Type 0
+Replay = (Network × (Streams × Certificate)) × Script
 
--- the same of a text that isn't there
-abbrev pub IsGoneFrom : ReplayWords → Files → Type 0
-IsGoneFrom words files =
-    (text_named pair_network words.net files ≡ None)
-    ⊎ ((net : Network) × IsRunNetIn words.net net files × (text_named pair_streams words.streams files ≡ None))
-    ⊎ ((net : Network) × (streams : Streams) × IsRunNetIn words.net net files × AreStreamsIn words.streams net streams files × (get files words.script ≡ None))
+abbrev pub scenario_in : Replay → Scenario
+scenario_in x = record { net = x.0.0; streams = x.0.1.0; script = x.1 }
 
-abbrev pub GoneIn : ReplayWords → Option Told → Type 0
-GoneIn words None = ⊥
-GoneIn words (Some told) = IsGoneFrom words told.files
+abbrev pub certificate_in : Replay → Certificate
+certificate_in x = x.0.1.1
 
--- the words stand for something that can be run
-abbrev pub HasScenario : ReplayWords → Outside → Type 0
-HasScenario words o = (w : Scenario) × WhereTold o.told_before o.told_after (OfFiles (IsScenarioIn words w))
+-- a network to run over, streams and a good certificate for them
+abbrev pub planned_in : JudgeWords → Reading (Network × (Streams × Certificate))
+planned_in words = then_read (run_network_in words.net) (certified_in words.streams words.certificate)
 
--- the cause of each answer; want of memory is free
-abbrev pub ReplayingCause : Status → ReplayWords → Outside → Type 0
-ReplayingCause status.Done words o = HasScenario words o
-ReplayingCause status.WriteFault words o = Rose o.sink_before o.sink_after × HasScenario words o
-ReplayingCause status.ReadFault words o = GoneIn words o.told_before ⊎ Rose o.shelf_before o.shelf_after
-ReplayingCause (status.Form kind line rule) words o = WhereTold o.told_before o.told_after (OfFiles (RefusedIn words (status.Form kind line rule)))
-ReplayingCause (status.Rules kind row rule) words o = WhereTold o.told_before o.told_after (OfFiles (RefusedIn words (status.Rules kind row rule)))
-ReplayingCause status.Memory words o = Unit {0}
-ReplayingCause status.Words words o = ⊥
-ReplayingCause (status.Unfit cause) words o = ⊥
+-- and then a script for them
+abbrev pub scripted_in : ReplayWords → Reading Replay
+scripted_in words = then_read (planned_in words.plan) (λ x. script_in words.script x.0 x.1.0)
 
--- the sink took this of what the words stand for
-abbrev pub OfScenario : ReplayWords → Outside → (Scenario → Taken → Taken → Type 0) → Type 0
-OfScenario words o Takes =
-    (w : Scenario) × WhereTold o.told_before o.told_after (OfFiles (IsScenarioIn words w)) × WhereTold o.taken_before o.taken_after (Takes w)
+-- sends break a curve, and this is the answer
+abbrev pub IsUnrulyAt : Replay → Status → Type 0
+IsUnrulyAt x s = (line : ℕ) × IsUnruly x.0.1.0.rows x.1.sends line × (s ≡ status.Unruly line)
 
--- What the sink took, by the answer: the trace of the run, flushed, where all was done; a front of it where writing failed;
--- nothing or a front of it where memory ran out; and else nothing.
-abbrev pub ReplayingLeaves : Status → ReplayWords → Outside → Type 0
-ReplayingLeaves status.Done words o = OfScenario words o TakesTrace
-ReplayingLeaves status.WriteFault words o = OfScenario words o TakesTextFront
-ReplayingLeaves status.Memory words o = (o.taken_after ≡ o.taken_before) ⊎ OfScenario words o TakesTextFront
-ReplayingLeaves status.ReadFault words o = o.taken_after ≡ o.taken_before
-ReplayingLeaves (status.Form kind line rule) words o = o.taken_after ≡ o.taken_before
-ReplayingLeaves (status.Rules kind row rule) words o = o.taken_after ≡ o.taken_before
-ReplayingLeaves status.Words words o = o.taken_after ≡ o.taken_before
-ReplayingLeaves (status.Unfit cause) words o = o.taken_after ≡ o.taken_before
+-- whose sends keep to the curves
+abbrev pub replaying : ReplayWords → Reading Replay
+replaying words = tested (scripted_in words) (λ x. CurvesHold x.0.1.0.rows x.1.sends) IsUnrulyAt
+
+-- ---- what the sink took
+
+-- What the sink took, by the answer: on Done the trace of the run, of which the headline holds; a front of it where writing
+-- failed; nothing or a front of it where memory ran out; and else nothing.
+pub record ReplayingLeaves (words : ReplayWords) (s : Status) (o : Outside) : Type 0 where
+  pub done : s ≡ status.Done → Took (replaying words) o (λ x. Headline (scenario_in x) (certificate_in x))
+  pub torn : s ≡ status.WriteFault → Took (replaying words) o (λ x. TakesTextFront (scenario_in x))
+  pub stopped : s ≡ status.Memory → (o.taken_after ≡ o.taken_before) ⊎ Took (replaying words) o (λ x. TakesTextFront (scenario_in x))
+  pub nothing : s ≢ status.Done → s ≢ status.WriteFault → s ≢ status.Memory → o.taken_after ≡ o.taken_before

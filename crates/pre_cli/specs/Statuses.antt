@@ -28,6 +28,8 @@ number_of status.WriteFault = 3
 number_of (status.Form kind line rule) = 4
 number_of (status.Rules kind row rule) = 5
 number_of (status.Unfit cause) = unfit_number cause
+number_of (status.Rejected clause row) = 7
+number_of (status.Unruly line) = 8
 number_of status.Memory = 10
 
 abbrev pub file_word : FileWord → List ℕ
@@ -64,7 +66,7 @@ unfit_text unfit.Memory = codes "memory"
 
 -- the answer for wrong words
 unfoldable pub usage : List ℕ
-usage = codes "usage: preempt certify, judge, replay, mpackets or drill"
+usage = codes "usage: preempt certify, judge, migrate, replay, mpackets or drill"
 
 abbrev pub text_of : Status → List ℕ
 text_of status.Done = []
@@ -74,4 +76,6 @@ text_of status.WriteFault = codes "write fault"
 text_of (status.Form kind line rule) = (codes "form " ++ file_word kind) ++ (behind_space line ++ behind_space rule)
 text_of (status.Rules kind row rule) = (codes "rules " ++ file_word kind) ++ (row_words row ++ behind_space rule)
 text_of (status.Unfit cause) = unfit_text cause
+text_of (status.Rejected clause row) = codes "rejected" ++ (behind_space clause ++ behind_space row)
+text_of (status.Unruly line) = codes "unruly" ++ behind_space line
 text_of status.Memory = codes "memory"

@@ -1,5 +1,4 @@
 ghost use Rattle.std.specs.Prelude.{◌≡◌, ℕ, List, ◌++◌};
-ghost use Rattle.pre_base.specs.Shelves.{Told, Files};
 ghost use Rattle.pre_base.specs.Sinks.{Taken};
 ghost use Rattle.pre_topo.specs.declared.network.Network.{Network};
 ghost use Rattle.pre_history.specs.Deliveries.{DeliversOnce};
@@ -12,20 +11,20 @@ ghost use Rattle.pre_cli.specs.declared.statuses.Status.{Status};
 ghost use Rattle.pre_cli.specs.declared.statuses.Status.TheVariants as status;
 ghost use Rattle.pre_cli.specs.Answers.{Outside};
 ghost use Rattle.pre_cli.specs.Commands.{command_of, unknown, CauseOf};
-ghost use Rattle.pre_cli.specs.Due.{TellsFiles};
-ghost use Rattle.pre_cli.specs.DueReplays.{Outcome, ComeTo, IsReplayDue};
-ghost use Rattle.pre_cli.specs.Replaying.{ReplayingCause};
+ghost use Rattle.pre_cli.specs.Readings.{OneOutcome, DueIsAnswered};
+ghost use Rattle.pre_cli.specs.Replaying.{replaying};
 ghost use Rattle.pre_cli.specs.Words.{ReplayWords};
 ghost use Rattle.pre_cli.specs.Written.{TakesText};
 
 /// The cause of each answer leaves no other answer. Wrong words are answered as such. Where a script is to be run, files
-/// come to one outcome at most: a text that isn't there at its turn, the first one that is refused, or one network, streams
-/// and script that are run; and this is answered, but where memory isn't found or the shelf or sink fails.
+/// come to one outcome at most: a text that isn't there at its turn; the first one that is refused, a certificate that is
+/// rejected or sends that break a curve; or one network, streams, certificate and script that are run. This is answered, but
+/// where memory isn't found or the shelf or sink fails.
 pub fn due_answers()
     ensures words { (s : Status) (words : List (List ℕ)) (o : Outside) → command_of words ≡ unknown → CauseOf s words o → s ≡ status.Words }
     ensures known { (words : List (List ℕ)) (o : Outside) → CauseOf status.Words words o → command_of words ≡ unknown }
-    ensures alone { (words : ReplayWords) (files : Files) (a b : Outcome) → ComeTo words a files → ComeTo words b files → a ≡ b }
-    ensures replay { (s : Status) (words : ReplayWords) (outcome : Outcome) (o : Outside) (told : Told) → TellsFiles o told → ComeTo words outcome told.files → ReplayingCause s words o → IsReplayDue o outcome s }
+    ensures alone { (words : ReplayWords) → OneOutcome (replaying words) }
+    ensures replay { (words : ReplayWords) → DueIsAnswered (replaying words) }
 {}
 
 /// What a sink took beyond what it had is the text of one history at most, of those that can be told over the network. So

@@ -4,6 +4,9 @@
 mod certifying;
 mod certifying_laws;
 mod commands;
+mod curves;
+mod judging;
+mod judging_laws;
 mod laws;
 mod listing_laws;
 mod listings;
@@ -15,6 +18,7 @@ mod replays;
 mod statuses;
 
 pub use certifying_laws::due_certificates;
+pub use judging_laws::due_verdicts;
 pub use laws::{due_answers, one_trace};
 pub use listing_laws::due_listings;
 pub use preempts::preempt;

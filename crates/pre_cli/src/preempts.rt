@@ -3,7 +3,8 @@ ghost use Rattle.pre_cli.specs.Commands.{CauseOf, LeavesOf};
 
 use crate::Status;
 use crate::certifying::certify_files;
-use crate::commands::{files_named, packets_named, replay_named};
+use crate::commands::{files_named, judge_named, packets_named, replay_named};
+use crate::judging::{judge_files, migrate_files};
 use crate::listings::list_file;
 use crate::replays::replay_files;
 use pre_base::{Shelf, Sink};
@@ -40,8 +41,16 @@ pub fn preempt<H: Shelf, S: Sink>(
     if let Some(name) = packets_named(words) {
         return list_file(alloc, name, shelf, sink);
     }
+    if let Some((net, streams, certificate)) = judge_named(words, "judge") {
+        return judge_files(alloc, net, streams, certificate, shelf, sink);
+    }
+    if let Some((net, streams, certificate)) = judge_named(words, "migrate") {
+        return migrate_files(alloc, net, streams, certificate, shelf, sink);
+    }
     match replay_named(words) {
         None => Status::Words,
-        Some((net, streams, script)) => replay_files(alloc, net, streams, script, shelf, sink),
+        Some((net, streams, certificate, script)) => {
+            replay_files(alloc, net, streams, certificate, script, shelf, sink)
+        }
     }
 }

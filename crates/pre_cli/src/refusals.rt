@@ -123,3 +123,20 @@ pub(crate) fn put_unfit<S: Sink>(sink: &mut S, cause: &Unfit) -> Result<(), Fail
         Unfit::Memory => write_all(sink, b"memory"),
     }
 }
+
+/// Writes the first clause of a certificate that fails, and its first row.
+pub(crate) fn put_rejected<S: Sink>(sink: &mut S, clause: u64, row: u64) -> Result<(), Failed>
+    ensures octets { WhereTold (S.tells sink.old) (S.tells sink.new) (TakesAll result (codes "rejected" ++ (behind_space clause ++ behind_space row))) }
+    ensures cause { HasCause (S.faults sink.old) (S.faults sink.new) result }
+{
+    write_all(sink, b"rejected")?;
+    put_place(sink, clause, row)
+}
+
+/// Writes the line of a script at which sends break a curve.
+pub(crate) fn put_unruly<S: Sink>(sink: &mut S, line: u64) -> Result<(), Failed>
+    ensures octets { WhereTold (S.tells sink.old) (S.tells sink.new) (TakesAll result (codes "unruly" ++ behind_space line)) }
+    ensures cause { HasCause (S.faults sink.old) (S.faults sink.new) result }
+{
+    put_numbered(sink, b"unruly", line)
+}

@@ -1,24 +1,33 @@
 ghost use Rattle.std.specs.Prelude.{◌≡◌, ◌≤◌, ◌≢◌, true, None, IfOk, IfErr};
 ghost use Rattle.pre_base.specs.Told.{WhereTold};
+ghost use Rattle.pre_bound.specs.Listed.{GoodCertificate};
+ghost use Rattle.pre_delay.specs.Runs.{IsRun};
 ghost use Rattle.pre_script.specs.Fits as lines;
+ghost use Rattle.pre_streams.specs.Fits as rows;
 ghost use Rattle.pre_sim.specs.Reach.{CanRun};
 ghost use Rattle.pre_sim.specs.Steps.{StepTells, StepCause};
-ghost use Rattle.pre_cli.specs.Certifying.{pair_network, OfFiles, IsGone, InPlace, IsNoFile};
+ghost use Rattle.pre_cli.specs.Certifying.{OfFiles, InPlace, IsNoFile};
+ghost use Rattle.pre_cli.specs.Curves.{CurvesHold};
 ghost use Rattle.pre_cli.specs.Negotiating.{first_negotiating_link};
-ghost use Rattle.pre_cli.specs.Replaying.{IsRunNetIn, RunNetRefused, IsScriptIn, ScriptRefused, IsScenarioIn, GoneIn, RefusedIn, ReplayingCause, ReplayingLeaves};
+ghost use Rattle.pre_cli.specs.Readings.{Instead, AnswerCause};
+ghost use Rattle.pre_cli.specs.Replaying.{run_network_in, planned_in, scripted_in, replaying, IsScriptIn, ScriptRefused, ReplayingLeaves};
 ghost use Rattle.pre_cli.specs.Replaying as replaying;
 ghost use Rattle.pre_cli.specs.Runs.{RunLeaves, RunEnds, RunCause, FlushEnds};
-ghost use Rattle.pre_cli.specs.Words.{replay_words};
+ghost use Rattle.pre_cli.specs.Words.{judge_words, replay_words};
 
-use crate::certifying::{file_text, network_named, streams_named};
+use crate::certifying::{file_text, network_named};
+use crate::curves::{prios_below, unruly_line};
+use crate::judging::{Certified, certified_named};
 use crate::negotiating::first_negotiating_link;
 use crate::{FileWord, Status};
 use pre_base::{FileRow, Shelf, Sink};
+use pre_delay::{files_make_a_run, network_law};
+use pre_laws::{deliveries_are_of_frames_sent, files_give_routes};
 use pre_script::{Script, ScriptFault, read_script};
-use pre_sim::{Sim, Step, runs_are_plain};
+use pre_sim::{Sim, Step};
 use pre_streams::Streams;
 use pre_topo::Network;
-use pre_trace::{TraceWatcher, Watcher, deliveries_are_what_was_sent};
+use pre_trace::{TraceWatcher, Watcher};
 use std::alloc::Global;
 
 /// Does all the steps of a run: the last one's answer.
@@ -50,8 +59,8 @@ pub(crate) fn run<S: Sink>(
     ensures cause { StepCause result (S.faults sink.old) (S.faults sink.new) }
     ensures octets { RunLeaves (record { net = net.now; streams = streams.now; script = script.now }) result (S.tells sink.old) (S.tells sink.new) }
 {
-    runs_are_plain();
-    deliveries_are_what_was_sent();
+    files_give_routes();
+    deliveries_are_of_frames_sent();
     let Ok(mut sim) = Sim::make(alloc, net, streams, script) else {
         return Step::Memory;
     };
@@ -104,8 +113,8 @@ fn negotiating_status(link: u64) -> Status
 /// The network that a word stands for, where a run can go over it, or the answer in its place.
 fn run_network<H: Shelf>(alloc: Global, word: &str, shelf: &mut H) -> Result<Network, Status>
     ensures modes { IfOk result (λ net. first_negotiating_link net.arcs ≡ None) }
-    ensures net { IfOk result (λ net. WhereTold (H.tells shelf.old) (H.tells shelf.new) (OfFiles (IsRunNetIn word.now net))) }
-    ensures cause { IfErr result (λ s. InPlace s (IsGone pair_network word.now) (RunNetRefused word.now) (H.faults shelf.old) (H.faults shelf.new) (H.tells shelf.old) (H.tells shelf.new)) }
+    ensures net { IfOk result (λ net. WhereTold (H.tells shelf.old) (H.tells shelf.new) (OfFiles ((run_network_in word.now).gives net))) }
+    ensures cause { IfErr result (λ s. Instead (run_network_in word.now) s (H.faults shelf.old) (H.faults shelf.new) (H.tells shelf.old) (H.tells shelf.new)) }
     ensures later { H.faults shelf.old ≤ H.faults shelf.new }
 {
     match network_named(alloc, word, shelf) {
@@ -152,54 +161,157 @@ fn script_in<H: Shelf>(
     }
 }
 
-/// What is run: a network, streams and a script.
+/// What a run goes over: a network, streams and a good certificate for them.
+#[derive(Drop)]
+struct Planned {
+    net: Network,
+    certified: Certified,
+}
+
+/// What three words stand for, each text read and tested before the next one, or the answer in its place.
+fn planned_named<H: Shelf>(
+    alloc: Global,
+    net_word: &str,
+    streams_word: &str,
+    certificate_word: &str,
+    shelf: &mut H,
+) -> Result<Planned, Status>
+    ensures modes { IfOk result (λ x. first_negotiating_link x.net.arcs ≡ None) }
+    ensures fits { IfOk result (λ x. rows.Fits x.net x.certified.streams) }
+    ensures good { IfOk result (λ x. GoodCertificate x.net x.certified.streams x.certified.certificate) }
+    ensures planned { IfOk result (λ x. WhereTold (H.tells shelf.old) (H.tells shelf.new) (OfFiles ((planned_in (judge_words net_word.now streams_word.now certificate_word.now)).gives (x.net, (x.certified.streams, x.certified.certificate))))) }
+    ensures cause { IfErr result (λ s. Instead (planned_in (judge_words net_word.now streams_word.now certificate_word.now)) s (H.faults shelf.old) (H.faults shelf.new) (H.tells shelf.old) (H.tells shelf.new)) }
+    ensures later { H.faults shelf.old ≤ H.faults shelf.new }
+{
+    match run_network(alloc, net_word, shelf) {
+        Ok(net) => match certified_named(alloc, streams_word, certificate_word, &net, shelf) {
+            Ok(certified) => Ok(Planned { net, certified }),
+            Err(status) => Err(status),
+        },
+        Err(status) => Err(status),
+    }
+}
+
+/// All that is run.
 #[derive(Drop)]
 struct Input {
-    net: Network,
-    streams: Streams,
+    planned: Planned,
     script: Script,
 }
 
-/// What the words of the command stand for, each text read and tested before the next one, or the answer in its place.
+/// What the four words stand for.
+fn scripted_named<H: Shelf>(
+    alloc: Global,
+    net_word: &str,
+    streams_word: &str,
+    certificate_word: &str,
+    script_word: &str,
+    shelf: &mut H,
+) -> Result<Input, Status>
+    ensures can { IfOk result (λ x. CanRun x.planned.net x.planned.certified.streams x.script) }
+    ensures good { IfOk result (λ x. GoodCertificate x.planned.net x.planned.certified.streams x.planned.certified.certificate) }
+    ensures scripted { IfOk result (λ x. WhereTold (H.tells shelf.old) (H.tells shelf.new) (OfFiles ((scripted_in (replay_words net_word.now streams_word.now certificate_word.now script_word.now)).gives ((x.planned.net, (x.planned.certified.streams, x.planned.certified.certificate)), x.script)))) }
+    ensures cause { IfErr result (λ s. Instead (scripted_in (replay_words net_word.now streams_word.now certificate_word.now script_word.now)) s (H.faults shelf.old) (H.faults shelf.new) (H.tells shelf.old) (H.tells shelf.new)) }
+    ensures later { H.faults shelf.old ≤ H.faults shelf.new }
+{
+    match planned_named(alloc, net_word, streams_word, certificate_word, shelf) {
+        Ok(planned) => match script_in(
+            alloc,
+            script_word,
+            &planned.net,
+            &planned.certified.streams,
+            shelf,
+        ) {
+            Ok(script) => Ok(Input { planned, script }),
+            Err(status) => Err(status),
+        },
+        Err(status) => Err(status),
+    }
+}
+
+/// The same, where the sends of each stream keep to its curve, and else the first line at which they don't.
 fn input_named<H: Shelf>(
     alloc: Global,
     net_word: &str,
     streams_word: &str,
+    certificate_word: &str,
     script_word: &str,
     shelf: &mut H,
 ) -> Result<Input, Status>
-    ensures can { IfOk result (λ input. CanRun input.net input.streams input.script) }
-    ensures input { IfOk result (λ input. WhereTold (H.tells shelf.old) (H.tells shelf.new) (OfFiles (IsScenarioIn (replay_words net_word.now streams_word.now script_word.now) (record { net = input.net; streams = input.streams; script = input.script })))) }
-    ensures cause { IfErr result (λ s. InPlace s (GoneIn (replay_words net_word.now streams_word.now script_word.now)) (RefusedIn (replay_words net_word.now streams_word.now script_word.now)) (H.faults shelf.old) (H.faults shelf.new) (H.tells shelf.old) (H.tells shelf.new)) }
+    ensures can { IfOk result (λ x. CanRun x.planned.net x.planned.certified.streams x.script) }
+    ensures good { IfOk result (λ x. GoodCertificate x.planned.net x.planned.certified.streams x.planned.certified.certificate) }
+    ensures curves { IfOk result (λ x. CurvesHold x.planned.certified.streams.rows x.script.sends) }
+    ensures input { IfOk result (λ x. WhereTold (H.tells shelf.old) (H.tells shelf.new) (OfFiles ((replaying (replay_words net_word.now streams_word.now certificate_word.now script_word.now)).gives ((x.planned.net, (x.planned.certified.streams, x.planned.certified.certificate)), x.script)))) }
+    ensures cause { IfErr result (λ s. Instead (replaying (replay_words net_word.now streams_word.now certificate_word.now script_word.now)) s (H.faults shelf.old) (H.faults shelf.new) (H.tells shelf.old) (H.tells shelf.new)) }
     ensures later { H.faults shelf.old ≤ H.faults shelf.new }
 {
-    let net = run_network(alloc, net_word, shelf)?;
-    let streams = streams_named(alloc, streams_word, &net, shelf)?;
-    let script = script_in(alloc, script_word, &net, &streams, shelf)?;
-    Ok(Input {
-        net,
-        streams,
-        script,
-    })
+    match scripted_named(
+        alloc,
+        net_word,
+        streams_word,
+        certificate_word,
+        script_word,
+        shelf,
+    ) {
+        Ok(input) => {
+            let rows = input.planned.certified.streams.rows.as_slice();
+            match unruly_line(alloc, rows, input.script.sends.as_slice()) {
+                Ok(None) => Ok(input),
+                Ok(Some(line)) => Err(Status::Unruly { line }),
+                Err(_) => Err(Status::Memory),
+            }
+        }
+        Err(status) => Err(status),
+    }
 }
 
-/// The command `replay` with words for a network and streams, as `certify` takes them, and the name of a script: it
-/// runs the script, and writes the trace.
+/// A script that keeps to the curves is a run, for which a good certificate keeps its word.
+fn makes_a_run(net: &Network, streams: &Streams, script: &Script)
+    requires fits { rows.Fits net.now streams.now }
+    requires lines { lines.Fits net.now streams.now script.now }
+    requires curves { CurvesHold streams.now.rows script.now.sends }
+    ensures { IsRun (record { net = net.now; streams = streams.now; script = script.now }) }
+{
+    files_make_a_run();
+    prios_below(streams.rows.as_slice());
+}
+
+/// The command `replay` with words for a network and streams, as `certify` takes them, and the names of a certificate and
+/// a script: it runs the script, and writes the trace.
 pub(crate) fn replay_files<H: Shelf, S: Sink>(
     alloc: Global,
     net_word: &str,
     streams_word: &str,
+    certificate_word: &str,
     script_word: &str,
     shelf: &mut H,
     sink: &mut S,
 ) -> Status
-    ensures cause { ReplayingCause result (replay_words net_word.now streams_word.now script_word.now) (record { shelf_before = H.faults shelf.old; shelf_after = H.faults shelf.new; sink_before = S.faults sink.old; sink_after = S.faults sink.new; told_before = H.tells shelf.old; told_after = H.tells shelf.new; taken_before = S.tells sink.old; taken_after = S.tells sink.new }) }
-    ensures leaves { ReplayingLeaves result (replay_words net_word.now streams_word.now script_word.now) (record { shelf_before = H.faults shelf.old; shelf_after = H.faults shelf.new; sink_before = S.faults sink.old; sink_after = S.faults sink.new; told_before = H.tells shelf.old; told_after = H.tells shelf.new; taken_before = S.tells sink.old; taken_after = S.tells sink.new }) }
+    ensures cause { AnswerCause (replaying (replay_words net_word.now streams_word.now certificate_word.now script_word.now)) result (record { shelf_before = H.faults shelf.old; shelf_after = H.faults shelf.new; sink_before = S.faults sink.old; sink_after = S.faults sink.new; told_before = H.tells shelf.old; told_after = H.tells shelf.new; taken_before = S.tells sink.old; taken_after = S.tells sink.new }) }
+    ensures leaves { ReplayingLeaves (replay_words net_word.now streams_word.now certificate_word.now script_word.now) result (record { shelf_before = H.faults shelf.old; shelf_after = H.faults shelf.new; sink_before = S.faults sink.old; sink_after = S.faults sink.new; told_before = H.tells shelf.old; told_after = H.tells shelf.new; taken_before = S.tells sink.old; taken_after = S.tells sink.new }) }
     ensures shelf_later { H.faults shelf.old ≤ H.faults shelf.new }
     ensures sink_later { S.faults sink.old ≤ S.faults sink.new }
 {
-    match input_named(alloc, net_word, streams_word, script_word, shelf) {
-        Ok(input) => trace(alloc, &input.net, &input.streams, &input.script, sink),
+    network_law();
+    match input_named(
+        alloc,
+        net_word,
+        streams_word,
+        certificate_word,
+        script_word,
+        shelf,
+    ) {
+        Ok(input) => {
+            let planned = &input.planned;
+            makes_a_run(&planned.net, &planned.certified.streams, &input.script);
+            trace(
+                alloc,
+                &planned.net,
+                &planned.certified.streams,
+                &input.script,
+                sink,
+            )
+        }
         Err(status) => status,
     }
 }

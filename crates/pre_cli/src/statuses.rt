@@ -4,7 +4,7 @@ ghost use Rattle.pre_base.specs.Told.{WhereTold};
 ghost use Rattle.pre_base.specs.Sinks.{TakesAll};
 ghost use Rattle.pre_cli.specs.Statuses.{number_of, file_word, behind_space, text_of, usage};
 
-use crate::refusals::{put_rules, put_unfit};
+use crate::refusals::{put_rejected, put_rules, put_unfit, put_unruly};
 use pre_base::{Failed, FileRow, Sink, write_all};
 use pre_certify::Unfit;
 use pre_text::put_number;
@@ -44,6 +44,15 @@ pub enum Status {
     },
     /// There is no certificate, for this cause.
     Unfit(Unfit),
+    /// The certificate isn't good: the first clause that fails, and its first row.
+    Rejected {
+        clause: u8,
+        row: u64,
+    },
+    /// The sends of a stream break its curve: the line of the script at which they do so first.
+    Unruly {
+        line: u64,
+    },
     /// Want of memory.
     Memory,
 }
@@ -64,6 +73,8 @@ impl Status {
             Status::Rules { .. } => 5,
             Status::Unfit(Unfit::Memory) | Status::Memory => 10,
             Status::Unfit(_) => 6,
+            Status::Rejected { .. } => 7,
+            Status::Unruly { .. } => 8,
         }
     }
 }
@@ -111,7 +122,7 @@ fn put_usage<S: Sink>(sink: &mut S) -> Result<(), Failed>
 {
     write_all(
         sink,
-        b"usage: preempt certify, judge, replay, mpackets or drill",
+        b"usage: preempt certify, judge, migrate, replay, mpackets or drill",
     )
 }
 
@@ -128,6 +139,8 @@ pub fn put_status<S: Sink>(status: &Status, sink: &mut S) -> Result<(), Failed>
         Status::Form { file, line, rule } => put_form(sink, *file, *line, *rule),
         Status::Rules { file, row, rule } => put_rules(sink, *file, *row, *rule),
         Status::Unfit(cause) => put_unfit(sink, cause),
+        Status::Rejected { clause, row } => put_rejected(sink, *clause as u64, *row),
+        Status::Unruly { line } => put_unruly(sink, *line),
         Status::Memory => write_all(sink, b"memory"),
     }
 }

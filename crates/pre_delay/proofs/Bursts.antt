@@ -325,7 +325,7 @@ offer_tick [] k d lt = absurd (omega (arith, lt))
 offer_tick (s ∷ ss) zero d lt = refl
 offer_tick (s ∷ ss) (suc k) d lt = offer_tick ss k d (omega (arith, lt))
 
-offers_in_order : (ss : List SendLine) → AllPairs SendsInOrder ss → InOrder (offers_of (map (λ (s : SendLine). s.send) ss))
+pub offers_in_order : (ss : List SendLine) → AllPairs SendsInOrder ss → InOrder (offers_of (map (λ (s : SendLine). s.send) ss))
 offers_in_order ss order i j le lt =
     let long = offers_long ss in
     let one = offer_tick ss i no_send (omega (arith, le, lt, long)) in

@@ -9,7 +9,7 @@ use std::alloc::{AllocError, Global};
 use std::test::Fail;
 
 /// The built-in stream over the built-in link.
-const PAIR: &str = "certificate 2
+pub const PAIR: &str = "certificate 2
 arc a>b 0 1522
 port a>b 6 143 2000 0 2143 2214
 hop x 0 2000
@@ -18,7 +18,7 @@ end
 ";
 
 /// Two arcs: the second delay is one tick longer, as the burst has grown by an octet.
-const TWO_HOPS: &str = "certificate 2
+pub const TWO_HOPS: &str = "certificate 2
 arc a>m 0 1522
 arc m>b 1 1522
 port a>m 6 143 84 0 227 84
@@ -42,7 +42,7 @@ end
 ";
 
 /// A stream of short frames, before a flow whose frames are cut.
-const SHORT: &str = "certificate 2
+pub const SHORT: &str = "certificate 2
 arc a>b 0 1522
 port a>b 6 143 84 0 227 84
 hop x 0 84
@@ -81,7 +81,7 @@ end
 ";
 
 /// A stream of short frames, and behind it a flow with frames of up to this many octets.
-fn short_before(alloc: Global, max: u16) -> Result<String, AllocError> {
+pub fn short_before(alloc: Global, max: u16) -> Result<String, AllocError> {
     format!(in alloc;
         "[[stream]]\nname = \"x\"\nvid = 10\nprio = 6\nroute = [\"a\", \"b\"]\nmax = 64\nburst = 84\nrate = 1000\n[[flow]]\nname = \"y\"\nvid = 20\nprio = 0\nroute = [\"a\", \"b\"]\nmax = {max}\n"
     )
@@ -92,11 +92,11 @@ const FULL: &str =
     "[[stream]]\nname = \"x\"\nvid = 1\nprio = 6\nroute = [\"a\", \"b\"]\nmax = 64\nburst = 84\nrate = 600000\n[[stream]]\nname = \"z\"\nvid = 2\nprio = 6\nroute = [\"a\", \"b\"]\nmax = 64\nburst = 84\nrate = 400000\n";
 
 /// Three bridges in a ring, with a station at each.
-const RING: &str =
+pub const RING: &str =
     "express_from = 4\n[[node]]\nname = \"p\"\nkind = \"bridge\"\n[[node]]\nname = \"q\"\nkind = \"bridge\"\n[[node]]\nname = \"r\"\nkind = \"bridge\"\n[[node]]\nname = \"s\"\nkind = \"station\"\n[[node]]\nname = \"t\"\nkind = \"station\"\n[[node]]\nname = \"u\"\nkind = \"station\"\n[[link]]\nends = [\"p\", \"q\"]\ncost = 1\nmode = \"on\"\nrings = [64, 64, 64, 64, 64, 64, 64, 64]\n[[link]]\nends = [\"q\", \"r\"]\ncost = 1\nmode = \"on\"\nrings = [64, 64, 64, 64, 64, 64, 64, 64]\n[[link]]\nends = [\"r\", \"p\"]\ncost = 1\nmode = \"on\"\nrings = [64, 64, 64, 64, 64, 64, 64, 64]\n[[link]]\nends = [\"s\", \"p\"]\ncost = 1\nmode = \"on\"\nrings = [64, 64, 64, 64, 64, 64, 64, 64]\n[[link]]\nends = [\"t\", \"q\"]\ncost = 1\nmode = \"on\"\nrings = [64, 64, 64, 64, 64, 64, 64, 64]\n[[link]]\nends = [\"u\", \"r\"]\ncost = 1\nmode = \"on\"\nrings = [64, 64, 64, 64, 64, 64, 64, 64]\n";
 
 /// Streams that go round, each by the arcs between three bridges and those to and from stations.
-const ROUND: &str =
+pub const ROUND: &str =
     "[[stream]]\nname = \"c1\"\nvid = 1\nprio = 6\nroute = [\"s\", \"p\", \"q\", \"r\", \"u\"]\nmax = 64\nburst = 84\nrate = 1000\n[[stream]]\nname = \"c2\"\nvid = 2\nprio = 6\nroute = [\"t\", \"q\", \"r\", \"p\", \"s\"]\nmax = 64\nburst = 84\nrate = 1000\n[[stream]]\nname = \"c3\"\nvid = 3\nprio = 6\nroute = [\"u\", \"r\", \"p\", \"q\", \"t\"]\nmax = 64\nburst = 84\nrate = 1000\n";
 
 /// Two stations and a link on which an octet takes 1000 ticks.

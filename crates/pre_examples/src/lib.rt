@@ -11,3 +11,5 @@ mod networks;
 mod running;
 #[cfg(test)]
 mod streams;
+#[cfg(test)]
+mod verdicts;

@@ -104,7 +104,7 @@ fn a_line_of_three_bridges(rt: HostRuntime) -> Result<(), Fail> {
     let script =
         "send 0 axis1 64\nsend 0 axis2 64\nsend 0 video 1522\nsend 1200 video 1522\nsend 1600 alarm 64\nuntil 12000\n";
     let mut sink = wide_sink(alloc)?;
-    let words = "replay net streams script";
+    let words = "replay net streams cert script";
     let status = replayed_over(alloc, (LINE, BY_LINE), script, words, &mut sink)?;
     assert_eq!(rt; status.number(), 0);
     let trace = std::str::from_utf8(sink.octets())?;

@@ -1,6 +1,6 @@
 //! Links whose modes and rings tell. Checks are the CRC-32 of the octets before them by another program.
 
-use crate::plants::{FAR, NARROW, OFF, TWO_ROWS, WIDE_FLOW, WIDE_OFF};
+use crate::plants::{FAR, NARROW_OFF, OFF, ONE_FLOW, TWO_ROWS, WIDE_FLOW, WIDE_OFF};
 use crate::running::{assert_trace_over, replayed_over, wide_sink};
 use std::alloc::{AllocError, Global};
 use std::test::Fail;
@@ -62,22 +62,22 @@ fn the_greatest_frame(rt: HostRuntime) -> Result<(), Fail> {
 /// A frame has left its ring once its first octet has begun.
 #[test]
 fn rings_of_one_frame(rt: HostRuntime) -> Result<(), Fail> {
-    let script = "send 0 x 64\nsend 0 x 64\nsend 10 x 64\nsend 20 x 64\nuntil 200\n";
-    let trace = "0 enter a>b 6 0
-0 dropped a>b 6 1
+    let script = "send 0 y 64\nsend 0 y 64\nsend 10 y 64\nsend 20 y 64\nuntil 200\n";
+    let trace = "0 enter a>b 0 0
+0 dropped a>b 0 1
 0 begin a>b 0 E 0 0
-10 enter a>b 6 2
-20 dropped a>b 6 3
-72 ended a>b 0 64 d9064e6c
+10 enter a>b 0 2
+20 dropped a>b 0 3
+72 ended a>b 0 64 2f97dc4f
 72 arrive a>b 0 frame
-72 deliver b 0 0200000000010200000000008100c00a88b5000000000405060708090a0b0c0d0e0f101112131415161718191a1b1c1d1e1f20212223242526272829d9064e6c
+72 deliver b 0 0200000000010200000000008100001488b5000000000405060708090a0b0c0d0e0f101112131415161718191a1b1c1d1e1f202122232425262728292f97dc4f
 84 begin a>b 1 E 2 0
-156 ended a>b 1 64 ead93e25
+156 ended a>b 1 64 1c48ac06
 156 arrive a>b 1 frame
-156 deliver b 2 0200000000010200000000008100c00a88b500000002060708090a0b0c0d0e0f101112131415161718191a1b1c1d1e1f202122232425262728292a2bead93e25
+156 deliver b 2 0200000000010200000000008100001488b500000002060708090a0b0c0d0e0f101112131415161718191a1b1c1d1e1f202122232425262728292a2b1c48ac06
 200 end 4 2 2
 ";
-    assert_trace_over(&rt, rt.alloc(), (NARROW, TWO_ROWS), script, trace)?;
+    assert_trace_over(&rt, rt.alloc(), (NARROW_OFF, ONE_FLOW), script, trace)?;
     Ok(())
 }
 
@@ -88,12 +88,12 @@ fn a_long_wire(rt: HostRuntime) -> Result<(), Fail> {
     let alloc = rt.alloc();
     let mut script = String::new(alloc);
     for number in 0..60u32 {
-        script.push_str(format!(in alloc; "send {} x 64\n", 84 * number)?.as_str())?;
+        script.push_str(format!(in alloc; "send {} y 64\n", 84 * number)?.as_str())?;
     }
     script.push_str("until 12000\n")?;
     let mut sink = wide_sink(alloc)?;
-    let words = "replay net streams script";
-    let status = replayed_over(alloc, (FAR, TWO_ROWS), script.as_str(), words, &mut sink)?;
+    let words = "replay net streams cert script";
+    let status = replayed_over(alloc, (FAR, ONE_FLOW), script.as_str(), words, &mut sink)?;
     assert_eq!(rt; status.number(), 0);
     let trace = std::str::from_utf8(sink.octets())?;
     assert!(rt; trace.contains("\n5028 ended a>b 59 64 "));

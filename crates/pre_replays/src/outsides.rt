@@ -1,7 +1,7 @@
 //! Files that aren't read, sinks that fail and words that name no command.
 
 use crate::running::{
-    EXAMPLE, EXAMPLE_TRACE, assert_status, replayed, shelf_with, wide_sink, words_of,
+    CERTIFICATE, EXAMPLE, EXAMPLE_TRACE, assert_status, replayed, shelf_with, wide_sink, words_of,
 };
 use pre_base::{MemoryShelf, MemorySink};
 use pre_cli::preempt;
@@ -34,14 +34,16 @@ fn the_flush_fails(rt: HostRuntime) -> Result<(), Fail> {
 #[test]
 fn wrong_words(rt: HostRuntime) -> Result<(), Fail> {
     let alloc = rt.alloc();
-    let usage = "usage: preempt certify, judge, replay, mpackets or drill";
+    let usage = "usage: preempt certify, judge, migrate, replay, mpackets or drill";
     for text in [
         "",
         "replay",
-        "replay pair script",
-        "replay pair pair script pair",
-        "Replay pair pair script",
+        "replay pair pair script",
+        "replay pair pair cert script pair",
+        "Replay pair pair cert script",
         "certify pair",
+        "judge pair pair",
+        "migrate pair pair cert script",
     ] {
         let mut shelf = shelf_with(alloc, EXAMPLE.as_bytes())?;
         let mut sink = wide_sink(alloc)?;
@@ -58,22 +60,24 @@ fn a_missing_file(rt: HostRuntime) -> Result<(), Fail> {
     let alloc = rt.alloc();
     let mut shelf = shelf_with(alloc, EXAMPLE.as_bytes())?;
     let mut sink = wide_sink(alloc)?;
-    let words = words_of(alloc, "replay pair pair other")?;
+    let words = words_of(alloc, "replay pair pair cert other")?;
     let status = preempt(alloc, words.as_slice(), &mut shelf, &mut sink);
     assert_status(&rt, alloc, &status, 2, "read fault")?;
     assert!(rt; sink.octets().is_empty());
     Ok(())
 }
 
-/// The call 0 selects the file, the call 1 reads it, and the call 2 would find its end.
+/// The first call selects the certificate, the next one reads it, and the third one would find its end; then the same of the
+/// script.
 #[test]
 fn a_read_fails(rt: HostRuntime) -> Result<(), Fail> {
     let alloc = rt.alloc();
-    for call in [0, 1, 2] {
+    for call in 0..6u64 {
         let mut shelf = MemoryShelf::make(alloc, &[call])?;
         shelf.put("script", EXAMPLE.as_bytes())?;
+        shelf.put("cert", CERTIFICATE.as_bytes())?;
         let mut sink = wide_sink(alloc)?;
-        let words = words_of(alloc, "replay pair pair script")?;
+        let words = words_of(alloc, "replay pair pair cert script")?;
         let status = preempt(alloc, words.as_slice(), &mut shelf, &mut sink);
         assert_eq!(rt; status.number(), 2, "at call {call}");
         assert!(rt; sink.octets().is_empty());

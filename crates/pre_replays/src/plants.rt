@@ -12,9 +12,13 @@ pub const WIDE_OFF: &str =
 pub const NARROW: &str =
     "express_from = 4\n[[node]]\nname = \"a\"\nkind = \"station\"\n[[node]]\nname = \"b\"\nkind = \"station\"\n[[link]]\nends = [\"a\", \"b\"]\ncost = 1\nmode = \"on\"\nrings = [1, 1, 1, 1, 1, 1, 1, 1]\n";
 
+/// The same over a link that doesn't preempt.
+pub const NARROW_OFF: &str =
+    "express_from = 4\n[[node]]\nname = \"a\"\nkind = \"station\"\n[[node]]\nname = \"b\"\nkind = \"station\"\n[[link]]\nends = [\"a\", \"b\"]\ncost = 1\nmode = \"off\"\nrings = [1, 1, 1, 1, 1, 1, 1, 1]\n";
+
 /// The same, with a wire that takes 6000 ticks.
 pub const FAR: &str =
-    "express_from = 4\n[[node]]\nname = \"a\"\nkind = \"station\"\n[[node]]\nname = \"b\"\nkind = \"station\"\n[[link]]\nends = [\"a\", \"b\"]\ncost = 1\ndelay = 6000\nmode = \"on\"\nrings = [1, 1, 1, 1, 1, 1, 1, 1]\n";
+    "express_from = 4\n[[node]]\nname = \"a\"\nkind = \"station\"\n[[node]]\nname = \"b\"\nkind = \"station\"\n[[link]]\nends = [\"a\", \"b\"]\ncost = 1\ndelay = 6000\nmode = \"off\"\nrings = [1, 1, 1, 1, 1, 1, 1, 1]\n";
 
 /// Two stations and a link that negotiates.
 pub const NEGOTIATED: &str =
@@ -32,6 +36,18 @@ pub const HALF_NEGOTIATED: &str =
 pub const TWO_ROWS: &str =
     "[[stream]]\nname = \"x\"\nvid = 10\nprio = 6\nroute = [\"a\", \"b\"]\nmax = 1522\nburst = 2000\nrate = 100000\n[[flow]]\nname = \"y\"\nvid = 20\nprio = 0\nroute = [\"a\", \"b\"]\nmax = 1522\n";
 
+/// A flow alone.
+pub const ONE_FLOW: &str =
+    "[[flow]]\nname = \"y\"\nvid = 20\nprio = 0\nroute = [\"a\", \"b\"]\nmax = 1522\n";
+
+/// A stream of short frames, and a flow.
+pub const SHORT_ROWS: &str =
+    "[[stream]]\nname = \"x\"\nvid = 10\nprio = 6\nroute = [\"a\", \"b\"]\nmax = 64\nburst = 84\nrate = 1000\n[[flow]]\nname = \"y\"\nvid = 20\nprio = 0\nroute = [\"a\", \"b\"]\nmax = 1522\n";
+
+/// Two streams, of which the second may send more at once.
+pub const TWO_STREAMS: &str =
+    "[[stream]]\nname = \"x\"\nvid = 10\nprio = 6\nroute = [\"a\", \"b\"]\nmax = 64\nburst = 84\nrate = 1000\n[[stream]]\nname = \"z\"\nvid = 11\nprio = 7\nroute = [\"a\", \"b\"]\nmax = 64\nburst = 168\nrate = 1000\n";
+
 /// A flow of the greatest frames.
 pub const WIDE_FLOW: &str =
     "[[flow]]\nname = \"y\"\nvid = 20\nprio = 0\nroute = [\"a\", \"b\"]\nmax = 2000\n";
@@ -46,7 +62,7 @@ pub const TWO_ARCS: &str =
 
 /// Their streams, of one priority.
 pub const BY_TWO_ARCS: &str =
-    "[[stream]]\nname = \"x\"\nvid = 10\nprio = 6\nroute = [\"a\", \"m\", \"b\"]\nmax = 64\nburst = 84\nrate = 1000\n[[stream]]\nname = \"z\"\nvid = 11\nprio = 6\nroute = [\"c\", \"m\", \"b\"]\nmax = 64\nburst = 84\nrate = 1000\n";
+    "[[stream]]\nname = \"x\"\nvid = 10\nprio = 6\nroute = [\"a\", \"m\", \"b\"]\nmax = 64\nburst = 168\nrate = 1000\n[[stream]]\nname = \"z\"\nvid = 11\nprio = 6\nroute = [\"c\", \"m\", \"b\"]\nmax = 64\nburst = 168\nrate = 1000\n";
 
 /// Two stations that each have a bridge to a third one: the link to the second bridge is one tick longer, and that bridge is one tick faster.
 pub const TWO_BRIDGES: &str =
@@ -54,7 +70,7 @@ pub const TWO_BRIDGES: &str =
 
 /// Their streams, of two priorities.
 pub const BY_TWO_BRIDGES: &str =
-    "[[stream]]\nname = \"x\"\nvid = 10\nprio = 6\nroute = [\"a\", \"m\", \"b\"]\nmax = 64\nburst = 84\nrate = 1000\n[[stream]]\nname = \"z\"\nvid = 11\nprio = 7\nroute = [\"c\", \"n\", \"b\"]\nmax = 64\nburst = 84\nrate = 1000\n";
+    "[[stream]]\nname = \"x\"\nvid = 10\nprio = 6\nroute = [\"a\", \"m\", \"b\"]\nmax = 64\nburst = 168\nrate = 1000\n[[stream]]\nname = \"z\"\nvid = 11\nprio = 7\nroute = [\"c\", \"n\", \"b\"]\nmax = 64\nburst = 168\nrate = 1000\n";
 
 /// A line of three switches, with a controller at the first, a drive at the second, and a drive and a camera at the third one.
 pub const LINE: &str =

@@ -26,10 +26,20 @@ pub fn words_of(alloc: Global, text: &str) -> Result<Vec<String>, AllocError> {
     Ok(words)
 }
 
-/// A shelf that never fails, with one file of the name `script`.
+/// The certificate of the built-in stream over the built-in link.
+pub const CERTIFICATE: &str = "certificate 2
+arc a>b 0 1522
+port a>b 6 143 2000 0 2143 2214
+hop x 0 2000
+bound x 2131
+end
+";
+
+/// A shelf that never fails, with a file `script` and the certificate of the built-in stream, `cert`.
 pub fn shelf_with(alloc: Global, script: &[u8]) -> Result<MemoryShelf, AllocError> {
     let mut shelf = MemoryShelf::make(alloc, &[])?;
     shelf.put("script", script)?;
+    shelf.put("cert", CERTIFICATE.as_bytes())?;
     Ok(shelf)
 }
 
@@ -41,12 +51,12 @@ pub fn wide_sink(alloc: Global) -> Result<MemorySink, AllocError> {
 /// Runs the script over the built-in network and streams.
 pub fn replayed<S: Sink>(alloc: Global, script: &str, sink: &mut S) -> Result<Status, AllocError> {
     let mut shelf = shelf_with(alloc, script.as_bytes())?;
-    let words = words_of(alloc, "replay pair pair script")?;
+    let words = words_of(alloc, "replay pair pair cert script")?;
     Ok(preempt(alloc, words.as_slice(), &mut shelf, sink))
 }
 
-/// Runs the script of a file `script` over the network of a file `net` and the streams of a file `streams`, as far as the
-/// words name these.
+/// Does a command over the network of a file `net`, the streams of a file `streams`, their least certificate in a file `cert`,
+/// which is empty where there is none, and the script of a file `script`.
 pub fn replayed_over<S: Sink>(
     alloc: Global,
     (net, streams): (&str, &str),
@@ -57,6 +67,10 @@ pub fn replayed_over<S: Sink>(
     let mut shelf = shelf_with(alloc, script.as_bytes())?;
     shelf.put("net", net.as_bytes())?;
     shelf.put("streams", streams.as_bytes())?;
+    let mut certificate = wide_sink(alloc)?;
+    let certifies = words_of(alloc, "certify net streams")?;
+    let _ = preempt(alloc, certifies.as_slice(), &mut shelf, &mut certificate);
+    shelf.put("cert", certificate.octets())?;
     let words = words_of(alloc, words)?;
     Ok(preempt(alloc, words.as_slice(), &mut shelf, sink))
 }
@@ -84,7 +98,7 @@ pub fn assert_trace_over(
     trace: &str,
 ) -> Result<(), AllocError> {
     let mut sink = wide_sink(alloc)?;
-    let words = "replay net streams script";
+    let words = "replay net streams cert script";
     let status = replayed_over(alloc, plant, script, words, &mut sink)?;
     assert_eq!(rt; status.number(), 0);
     assert_eq!(rt; sink.octets(), trace.as_bytes());

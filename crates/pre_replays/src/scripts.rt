@@ -48,7 +48,7 @@ fn too_long_a_file(rt: HostRuntime) -> Result<(), Fail> {
     let octets = vec![in alloc; b'\n'; 16_777_217]?;
     let mut shelf = shelf_with(alloc, octets.as_slice())?;
     let mut sink = wide_sink(alloc)?;
-    let words = words_of(alloc, "replay pair pair script")?;
+    let words = words_of(alloc, "replay pair pair cert script")?;
     let status = preempt(alloc, words.as_slice(), &mut shelf, &mut sink);
     assert_status(&rt, alloc, &status, 4, "form script 0 0")?;
     assert!(rt; sink.octets().is_empty());

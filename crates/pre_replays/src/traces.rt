@@ -1,6 +1,7 @@
 //! Whole runs and their traces.
 
-use crate::running::{EXAMPLE, EXAMPLE_TRACE, assert_trace, replayed, wide_sink};
+use crate::plants::{OFF, TWO_ROWS};
+use crate::running::{EXAMPLE, EXAMPLE_TRACE, assert_trace, replayed_over, wide_sink};
 use std::test::Fail;
 
 #[test]
@@ -41,15 +42,16 @@ fn a_full_ring(rt: HostRuntime) -> Result<(), Fail> {
     let alloc = rt.alloc();
     let mut script = String::new(alloc);
     for _ in 0..70u32 {
-        script.push_str("send 0 x 64\n")?;
+        script.push_str("send 0 y 64\n")?;
     }
     script.push_str("until 5000\n")?;
     let mut sink = wide_sink(alloc)?;
-    let status = replayed(alloc, script.as_str(), &mut sink)?;
+    let words = "replay net streams cert script";
+    let status = replayed_over(alloc, (OFF, TWO_ROWS), script.as_str(), words, &mut sink)?;
     assert_eq!(rt; status.number(), 0);
     let trace = std::str::from_utf8(sink.octets())?;
-    assert_eq!(rt; trace.matches("\n0 dropped a>b 6 6").count(), 6);
-    assert_eq!(rt; trace.matches("0 enter a>b 6 ").count(), 64);
+    assert_eq!(rt; trace.matches("\n0 dropped a>b 0 6").count(), 6);
+    assert_eq!(rt; trace.matches("0 enter a>b 0 ").count(), 64);
     assert_eq!(rt; trace.matches(" dropped ").count(), 6);
     assert!(rt; trace.ends_with("\n5000 end 70 59 6\n"));
     Ok(())

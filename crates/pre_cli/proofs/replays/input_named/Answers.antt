@@ -1,39 +1,39 @@
-use Rattle.std.proofs.Common.{arith}
-use Rattle.pre_cli.specs.declared.statuses.Status.{Status}
-use Rattle.pre_cli.specs.Certifying.{InPlace}
-use Rattle.pre_cli.specs.Replaying.{GoneIn, RefusedIn}
+use Rattle.std.proofs.Common.{◌≡◌, ℕ, List, Option, Some, None, refl, subst, rules}
+use Rattle.pre_streams.specs.declared.rows.Row.{Row}
+use Rattle.pre_script.specs.declared.scripts.SendLine.{SendLine}
+use Rattle.pre_cli.specs.declared.statuses.Status.TheVariants as status
+use Rattle.pre_cli.specs.Curves.{CurvesHold, IsUnruly, Finds}
+use Rattle.pre_cli.specs.Replaying.{Replay, scripted_in, IsUnrulyAt}
 use Rattle.pre_cli.specs.Words.{ReplayWords, replay_words}
-use Rattle.pre_cli.proofs.CanRuns.{can_run}
-use Rattle.pre_cli.proofs.ReplayLemmas.{handed_on, streams_cause, both_read, script_cause}
+use Rattle.pre_cli.proofs.ReadingLemmas.{untested_instead, failed_instead, passed_given}
 use Rattle.pre_cli.proofs.replays.input_named.Goals as goal
 
-pub returns-in_err-streams-clause-cause : goal.returns-in_err-streams-clause-cause
-returns-in_err-streams-clause-cause g c =
-    let words : ReplayWords = replay_words c.args.net_word.now c.args.streams_word.now c.args.script_word.now in
-    let before = g.H.Shelf.faults c.args.shelf.now in
-    let now = g.H.Shelf.faults c.streams_named.new.shelf in
-    let a = g.H.Shelf.tells c.args.shelf.now in
-    let b = g.H.Shelf.tells c.run_network.new.shelf in
-    let d = g.H.Shelf.tells c.streams_named.new.shelf in
-    let s = c.in_err-streams.field-0.0 in
-    handed_on c.from_residual-in_err-streams.result s (λ (t : Status). InPlace t (GoneIn words) (RefusedIn words) before now a d) c.from_residual-in_err-streams.ensures.0 c.from_residual-in_err-streams.ensures.1
-    (streams_cause words s c.in_ok-net.net before (g.H.Shelf.faults c.run_network.new.shelf) now a b d c.run_network.ensures.later c.in_ok-net.ensures.net c.in_err-streams.ensures.cause)
+pub returns-in-Ok-None-clause-input : goal.returns-in-Ok-None-clause-input
+returns-in-Ok-None-clause-input g c =
+    let words : ReplayWords = replay_words c.args.net_word.now c.args.streams_word.now c.args.certificate_word.now c.args.script_word.now in
+    let input = c.in-Ok.input in
+    let x : Replay = ((input.planned.net, (input.planned.certified.streams, input.planned.certified.certificate)), input.script) in
+    let none : c.in-Ok-None.field-0 ≡ None = c.in-Ok-None.field-0-is in
+    let found = subst (Finds c.as_slice-rows.result.now c.as_slice.result.now) none c.in-Ok-None.ensures in
+    let holds = subst (λ (rows : List Row). CurvesHold rows c.as_slice.result.now) c.as_slice-rows.ensures found in
+    passed_given (scripted_in words) (λ y. CurvesHold y.0.1.0.rows y.1.sends) IsUnrulyAt x (g.H.Shelf.tells c.args.shelf.now) (g.H.Shelf.tells c.scripted_named.new.shelf)
+    (subst (CurvesHold x.0.1.0.rows) c.as_slice.ensures holds) c.in-Ok.ensures.scripted
 
-pub returns-in_err-script-clause-cause : goal.returns-in_err-script-clause-cause
-returns-in_err-script-clause-cause g c =
-    let words : ReplayWords = replay_words c.args.net_word.now c.args.streams_word.now c.args.script_word.now in
-    let net = c.in_ok-net.net in
-    let streams = c.in_ok-streams.streams in
-    let before = g.H.Shelf.faults c.args.shelf.now in
-    let now = g.H.Shelf.faults c.script_in.new.shelf in
-    let a = g.H.Shelf.tells c.args.shelf.now in
-    let b = g.H.Shelf.tells c.run_network.new.shelf in
-    let d = g.H.Shelf.tells c.streams_named.new.shelf in
-    let e = g.H.Shelf.tells c.script_in.new.shelf in
-    let s = c.in_err-script.field-0.0 in
-    handed_on c.from_residual-in_err-script.result s (λ (t : Status). InPlace t (GoneIn words) (RefusedIn words) before now a e) c.from_residual-in_err-script.ensures.0 c.from_residual-in_err-script.ensures.1
-    (script_cause words s net streams before (g.H.Shelf.faults c.streams_named.new.shelf) now a d e (omega (arith, c.run_network.ensures.later, c.streams_named.ensures.later))
-    (both_read words net streams a b d c.in_ok-net.ensures.net c.in_ok-streams.ensures.streams) c.in_err-script.ensures.cause)
+pub returns-in-Ok-Some-clause-cause : goal.returns-in-Ok-Some-clause-cause
+returns-in-Ok-Some-clause-cause g c =
+    let words : ReplayWords = replay_words c.args.net_word.now c.args.streams_word.now c.args.certificate_word.now c.args.script_word.now in
+    let input = c.in-Ok.input in
+    let x : Replay = ((input.planned.net, (input.planned.certified.streams, input.planned.certified.certificate)), input.script) in
+    let line = c.in-Ok-Some.line in
+    let some : c.in-Ok-Some.field-0 ≡ Some line = search rules in
+    let found = subst (Finds c.as_slice-rows.result.now c.as_slice.result.now) some c.in-Ok-Some.ensures in
+    let unruly = subst (λ (rows : List Row). IsUnruly rows c.as_slice.result.now line) c.as_slice-rows.ensures found in
+    failed_instead (scripted_in words) (λ y. CurvesHold y.0.1.0.rows y.1.sends) IsUnrulyAt x (status.Unruly line) (g.H.Shelf.faults c.args.shelf.now) (g.H.Shelf.faults c.scripted_named.new.shelf)
+    (g.H.Shelf.tells c.args.shelf.now) (g.H.Shelf.tells c.scripted_named.new.shelf)
+    (line, subst (λ (sends : List SendLine). IsUnruly x.0.1.0.rows sends line) c.as_slice.ensures unruly, refl) c.in-Ok.ensures.scripted
 
-pub returns-clause-can : goal.returns-clause-can
-returns-clause-can g c = can_run c.in_ok-net.net c.in_ok-streams.streams c.in_ok-script.script c.in_ok-net.ensures.modes c.in_ok-streams.ensures.fits c.in_ok-script.ensures.fits
+pub returns-in-Err-clause-cause : goal.returns-in-Err-clause-cause
+returns-in-Err-clause-cause g c =
+    let words : ReplayWords = replay_words c.args.net_word.now c.args.streams_word.now c.args.certificate_word.now c.args.script_word.now in
+    untested_instead (scripted_in words) (λ y. CurvesHold y.0.1.0.rows y.1.sends) IsUnrulyAt c.in-Err.status (g.H.Shelf.faults c.args.shelf.now) (g.H.Shelf.faults c.scripted_named.new.shelf)
+    (g.H.Shelf.tells c.args.shelf.now) (g.H.Shelf.tells c.scripted_named.new.shelf) c.in-Err.ensures.cause

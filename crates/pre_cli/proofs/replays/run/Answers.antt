@@ -7,8 +7,8 @@ use Rattle.pre_cli.proofs.replays.run.Goals as goal
 pub returns-in_default-clause-octets : goal.returns-in_default-clause-octets
 returns-in_default-clause-octets g c =
     let w : Scenario = record { net = c.args.net.now; streams = c.args.streams.now; script = c.args.script.now } in
-    let plain = c.runs_are_plain.ensures w c.requires in
-    let once : DeliverOnce w = record { whole = c.deliveries_are_what_was_sent.ensures.whole w plain.direct; so_far = c.deliveries_are_what_was_sent.ensures.so_far w plain.direct } in
+    let routed = c.files_give_routes.ensures w c.requires.streams_fit c.requires.script_fits in
+    let once : DeliverOnce w = record { whole = c.deliveries_are_of_frames_sent.ensures.whole w routed; so_far = c.deliveries_are_of_frames_sent.ensures.so_far w routed } in
     nothing_left w once (g.S.Sink.tells c.args.sink.now)
 
 pub returns-clause-octets : goal.returns-clause-octets
@@ -20,8 +20,8 @@ returns-clause-octets g c =
     let kept : c.run_on.new.watcher.net.now ≡ w.net = search rules in
     let told = rw (kept, same_net, same_sink) at c.run_on.ensures.told in
     let still = rw same_sink at c.run_on.ensures.same.2 in
-    let plain = c.runs_are_plain.ensures w c.requires in
-    let once : DeliverOnce w = record { whole = c.deliveries_are_what_was_sent.ensures.whole w plain.direct; so_far = c.deliveries_are_what_was_sent.ensures.so_far w plain.direct } in
+    let routed = c.files_give_routes.ensures w c.requires.streams_fit c.requires.script_fits in
+    let once : DeliverOnce w = record { whole = c.deliveries_are_of_frames_sent.ensures.whole w routed; so_far = c.deliveries_are_of_frames_sent.ensures.so_far w routed } in
     subst (λ s. RunLeaves w c.run_on.result before (g.S.Sink.tells s)) (search rules)
     (run_leaves w once c.in-Ok.sim c.run_on.new.sim c.in-Ok.ensures.0 c.in-Ok.ensures.3
     c.run_on.result before (g.S.Sink.tells c.run_on.new.watcher.sink.now) still c.run_on.ensures.last told)
