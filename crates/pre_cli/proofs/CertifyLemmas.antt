@@ -90,6 +90,7 @@ file_cause status.Done kind built_in word before now a b is cause = absurd cause
 file_cause status.Words kind built_in word before now a b is cause = absurd cause
 file_cause (status.Rejected clause row) kind built_in word before now a b is cause = absurd cause
 file_cause (status.Unruly line) kind built_in word before now a b is cause = absurd cause
+file_cause (status.Alias arc ordinal) kind built_in word before now a b is cause = absurd cause
 file_cause status.WriteFault kind built_in word before now a b is cause = absurd cause
 file_cause (status.Unfit u) kind built_in word before now a b is cause = absurd cause
 
@@ -104,6 +105,7 @@ more_causes status.Done gone P Q before now a b f cause = absurd cause
 more_causes status.Words gone P Q before now a b f cause = absurd cause
 more_causes (status.Rejected clause row) gone P Q before now a b f cause = absurd cause
 more_causes (status.Unruly line) gone P Q before now a b f cause = absurd cause
+more_causes (status.Alias arc ordinal) gone P Q before now a b f cause = absurd cause
 more_causes status.WriteFault gone P Q before now a b f cause = absurd cause
 more_causes (status.Unfit u) gone P Q before now a b f cause = absurd cause
 
@@ -187,6 +189,7 @@ flushed_leaves status.Memory net streams k a b c least took ends = absurd ends
 flushed_leaves status.Words net streams k a b c least took ends = absurd ends
 flushed_leaves (status.Rejected clause row) net streams k a b c least took ends = absurd ends
 flushed_leaves (status.Unruly line) net streams k a b c least took ends = absurd ends
+flushed_leaves (status.Alias arc ordinal) net streams k a b c least took ends = absurd ends
 
 pub flushed_cause : (s : Status) (net : Network) (streams : Streams) (k : Certificate) (before between now : ℕ) (a b : Option Taken) → IsLeastRanked net streams k → NoneRefuses net streams.rows → before ≤ between → IsFlushed s a b → (s ≡ status.WriteFault → Rose between now)
     → CertifiedCause s net streams before now
@@ -200,6 +203,7 @@ flushed_cause status.Memory net streams k before between now a b least none late
 flushed_cause status.Words net streams k before between now a b least none later ends rose = absurd ends
 flushed_cause (status.Rejected clause row) net streams k before between now a b least none later ends rose = absurd ends
 flushed_cause (status.Unruly line) net streams k before between now a b least none later ends rose = absurd ends
+flushed_cause (status.Alias arc ordinal) net streams k before between now a b least none later ends rose = absurd ends
 
 -- ---- the command
 
@@ -218,6 +222,7 @@ net_cause status.Done net_word streams_word o cause = absurd cause
 net_cause status.Words net_word streams_word o cause = absurd cause
 net_cause (status.Rejected clause row) net_word streams_word o cause = absurd cause
 net_cause (status.Unruly line) net_word streams_word o cause = absurd cause
+net_cause (status.Alias arc ordinal) net_word streams_word o cause = absurd cause
 net_cause status.WriteFault net_word streams_word o cause = absurd cause
 net_cause (status.Unfit u) net_word streams_word o cause = absurd cause
 
@@ -241,6 +246,7 @@ streams_cause status.Done net_word streams_word net o between b later read cause
 streams_cause status.Words net_word streams_word net o between b later read cause = absurd cause
 streams_cause (status.Rejected clause row) net_word streams_word net o between b later read cause = absurd cause
 streams_cause (status.Unruly line) net_word streams_word net o between b later read cause = absurd cause
+streams_cause (status.Alias arc ordinal) net_word streams_word net o between b later read cause = absurd cause
 streams_cause status.WriteFault net_word streams_word net o between b later read cause = absurd cause
 streams_cause (status.Unfit u) net_word streams_word net o between b later read cause = absurd cause
 
@@ -259,6 +265,7 @@ certified_cause status.Memory net_word streams_word net streams o read cause = t
 certified_cause status.Words net_word streams_word net streams o read cause = absurd cause
 certified_cause (status.Rejected clause row) net_word streams_word net streams o read cause = absurd cause
 certified_cause (status.Unruly line) net_word streams_word net streams o read cause = absurd cause
+certified_cause (status.Alias arc ordinal) net_word streams_word net streams o read cause = absurd cause
 certified_cause status.ReadFault net_word streams_word net streams o read cause = absurd cause
 certified_cause (status.Form kind line rule) net_word streams_word net streams o read cause = absurd cause
 certified_cause (status.Rules kind row rule) net_word streams_word net streams o read cause = absurd cause
@@ -272,6 +279,7 @@ certified_leaves status.Memory net_word streams_word net streams o read took = t
 certified_leaves status.Words net_word streams_word net streams o read took = took
 certified_leaves (status.Rejected clause row) net_word streams_word net streams o read took = took
 certified_leaves (status.Unruly line) net_word streams_word net streams o read took = took
+certified_leaves (status.Alias arc ordinal) net_word streams_word net streams o read took = took
 certified_leaves status.ReadFault net_word streams_word net streams o read took = took
 certified_leaves (status.Form kind line rule) net_word streams_word net streams o read took = took
 certified_leaves (status.Rules kind row rule) net_word streams_word net streams o read took = took
@@ -287,5 +295,6 @@ nothing_left status.Done net_word streams_word o gone refused before now a b sam
 nothing_left status.Words net_word streams_word o gone refused before now a b same cause = absurd cause
 nothing_left (status.Rejected clause row) net_word streams_word o gone refused before now a b same cause = absurd cause
 nothing_left (status.Unruly line) net_word streams_word o gone refused before now a b same cause = absurd cause
+nothing_left (status.Alias arc ordinal) net_word streams_word o gone refused before now a b same cause = absurd cause
 nothing_left status.WriteFault net_word streams_word o gone refused before now a b same cause = absurd cause
 nothing_left (status.Unfit u) net_word streams_word o gone refused before now a b same cause = absurd cause

@@ -9,7 +9,7 @@ use Rattle.pre_cli.specs.declared.statuses.Status.TheVariants as status
 use Rattle.pre_cli.specs.Answers.{Outside}
 use Rattle.pre_cli.specs.Certifying.{OfFiles, GoneFrom}
 use Rattle.pre_cli.specs.Due.{TellsFiles, GivesUp}
-use Rattle.pre_cli.specs.Readings.{Reading, then_read, tested, Instead, Gave, AnswerCause, Outcome, missing, refuses, reads, ComeTo, IsDue, OneOutcome, DueIsAnswered}
+use Rattle.pre_cli.specs.Readings.{Reading, then_read, tested, Instead, Gave, Outcome, missing, refuses, reads, ComeTo, EndIsDue, OneOutcome, EndsAreDue}
 
 -- ---- readings that are decided by the files
 
@@ -97,30 +97,31 @@ module _ {X : Type 0} (R : Reading X) (decided : Decided R) where
   one_outcome files (reads x) (refuses t) a b = absurd (decided.not_refused files x t a b)
   one_outcome files (reads x) (reads y) a b = ap reads (decided.given_once files x y a b)
 
+module _ {X : Type 0} (R : Reading X) (Ends : X → Status → Type 0) (decided : Decided R) where
   -- what is due of one outcome is due of the only one
-  answered : (o : Outside) (s : Status) (outcome is : Outcome X) (files : Files) → ComeTo R outcome files → ComeTo R is files → IsDue o is s → IsDue o outcome s
-  answered o s outcome is files came comes due = subst (λ k. IsDue o k s) (one_outcome files is outcome comes came) due
+  answered : (o : Outside) (s : Status) (outcome is : Outcome X) (files : Files) → ComeTo R outcome files → ComeTo R is files → EndIsDue Ends o is s → EndIsDue Ends o outcome s
+  answered o s outcome is files came comes due = subst (λ k. EndIsDue Ends o k s) (one_outcome R decided files is outcome comes came) due
 
-  memory_due : (o : Outside) (outcome : Outcome X) (s : Status) → s ≡ status.Memory → IsDue o outcome s
+  memory_due : (o : Outside) (outcome : Outcome X) (s : Status) → s ≡ status.Memory → EndIsDue Ends o outcome s
   memory_due o missing s is = inr is
   memory_due o (refuses t) s is = inr (inl is)
   memory_due o (reads x) s is = inr (inr (inl is))
 
-  fault_due : (o : Outside) (outcome : Outcome X) (s : Status) → s ≡ status.ReadFault → Rose o.shelf_before o.shelf_after → IsDue o outcome s
+  fault_due : (o : Outside) (outcome : Outcome X) (s : Status) → s ≡ status.ReadFault → Rose o.shelf_before o.shelf_after → EndIsDue Ends o outcome s
   fault_due o missing s is rose = inl is
   fault_due o (refuses t) s is rose = inr (inr (is, rose))
   fault_due o (reads x) s is rose = inr (inr (inr (is, rose)))
 
-  written_due : (o : Outside) (x : X) (s : Status) → (s ≡ status.Done) ⊎ ((s ≡ status.WriteFault) × Rose o.sink_before o.sink_after) → IsDue o (reads x) s
-  written_due o x s (inl is) = inl is
+  written_due : (o : Outside) (x : X) (s : Status) → Ends x s ⊎ ((s ≡ status.WriteFault) × Rose o.sink_before o.sink_after) → EndIsDue Ends o (reads x) s
+  written_due o x s (inl ends) = inl ends
   written_due o x s (inr torn) = inr (inl torn)
 
-  pub due_is_answered : DueIsAnswered R
-  due_is_answered s outcome o told tells came (inl ((x, given), written)) =
+  pub ends_are_due : EndsAreDue R Ends
+  ends_are_due s outcome o told tells came (inl (x, given, written)) =
       answered o s outcome (reads x) told.files came (told_as o told (OfFiles (R.gives x)) tells given).1.0 (written_due o x s written)
-  due_is_answered s outcome o told tells came (inr (inl (is, inl lacks))) =
+  ends_are_due s outcome o told tells came (inr (inl (is, inl lacks))) =
       answered o s outcome missing told.files came (subst (λ a. GoneFrom R.gone a) tells.0 lacks) (inl is)
-  due_is_answered s outcome o told tells came (inr (inl (is, inr rose))) = fault_due o outcome s is rose
-  due_is_answered s outcome o told tells came (inr (inr (inl (can, bad)))) =
+  ends_are_due s outcome o told tells came (inr (inl (is, inr rose))) = fault_due o outcome s is rose
+  ends_are_due s outcome o told tells came (inr (inr (inl (can, bad)))) =
       answered o s outcome (refuses s) told.files came (told_as o told (OfFiles (R.refused s)) tells bad).1.0 (inl refl)
-  due_is_answered s outcome o told tells came (inr (inr (inr is))) = memory_due o outcome s is
+  ends_are_due s outcome o told tells came (inr (inr (inr is))) = memory_due o outcome s is

@@ -10,7 +10,6 @@ pub mod ListLemmas
 pub mod DueListing
 pub mod CertifyLemmas
 pub mod ReplayLemmas
-mod CanRuns
 pub mod DueCertificate
 pub mod OneReading
 pub mod DueStreams

@@ -111,6 +111,7 @@ flushed_leaves status.Memory octets arrivals a b c due took ends = absurd ends
 flushed_leaves status.Words octets arrivals a b c due took ends = absurd ends
 flushed_leaves (status.Rejected clause row) octets arrivals a b c due took ends = absurd ends
 flushed_leaves (status.Unruly line) octets arrivals a b c due took ends = absurd ends
+flushed_leaves (status.Alias arc ordinal) octets arrivals a b c due took ends = absurd ends
 flushed_leaves status.ReadFault octets arrivals a b c due took ends = absurd ends
 flushed_leaves (status.Rules kind row rule) octets arrivals a b c due took ends = absurd ends
 flushed_leaves (status.Unfit cause) octets arrivals a b c due took ends = absurd ends

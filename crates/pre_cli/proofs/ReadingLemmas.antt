@@ -12,7 +12,7 @@ use Rattle.pre_cli.specs.declared.statuses.Status.TheVariants as status
 use Rattle.pre_cli.specs.Answers.{Outside}
 use Rattle.pre_cli.specs.Certifying.{OfFiles, GoneFrom, InPlace, TakesFlushed}
 use Rattle.pre_cli.specs.Listed.{IsFlushed}
-use Rattle.pre_cli.specs.Readings.{Reading, then_read, tested, IsTextAnswer, Instead, Gave, IsWritten, AnswerCause, AnswerLeaves}
+use Rattle.pre_cli.specs.Readings.{Reading, then_read, tested, IsTextAnswer, Instead, Gave, EndsCause, AnswerLeaves}
 use Rattle.pre_cli.specs.Putting.{PutEnds, PutCause}
 use Rattle.pre_cli.proofs.CertifyLemmas.{of_more, of_both}
 
@@ -82,6 +82,7 @@ text_instead R gone status.WriteFault before now a b f may cause = absurd cause
 text_instead R gone (status.Unfit u) before now a b f may cause = absurd cause
 text_instead R gone (status.Rejected clause row) before now a b f may cause = absurd cause
 text_instead R gone (status.Unruly line) before now a b f may cause = absurd cause
+text_instead R gone (status.Alias arc ordinal) before now a b f may cause = absurd cause
 
 -- ---- what isn't written
 
@@ -96,6 +97,7 @@ IsInstead (status.Rules kind row rule) = Unit {0}
 IsInstead (status.Unfit u) = Unit {0}
 IsInstead (status.Rejected clause row) = Unit {0}
 IsInstead (status.Unruly line) = Unit {0}
+IsInstead (status.Alias arc ordinal) = ⊥
 IsInstead status.Memory = Unit {0}
 
 -- only such ones may come
@@ -113,6 +115,7 @@ text_refusing status.WriteFault is = absurd is
 text_refusing (status.Unfit u) is = absurd is
 text_refusing (status.Rejected clause row) is = absurd is
 text_refusing (status.Unruly line) is = absurd is
+text_refusing (status.Alias arc ordinal) is = absurd is
 
 pub then_refusing : {X Y : Type 0} (A : Reading X) (B : X → Reading Y) → Refusing A → ((x : X) → Refusing (B x)) → Refusing (then_read A B)
 then_refusing A B p q s (inl can) = p s can
@@ -128,10 +131,10 @@ is_instead R s before now a b refusing (inr (inl (can, told))) = refusing s can
 is_instead R s before now a b refusing (inr (inr is)) = subst IsInstead (sym is) tt
 
 -- words that are known aren't wrong
-pub no_words : {X : Type 0} (R : Reading X) (o : Outside) → Refusing R → AnswerCause R status.Words o → ⊥
-no_words R o refusing (inl (given, inl e)) = cc
-no_words R o refusing (inl (given, inr (e, rose))) = cc
-no_words R o refusing (inr cause) = is_instead R status.Words o.shelf_before o.shelf_after o.told_before o.told_after refusing cause
+pub no_words : {X : Type 0} (R : Reading X) (Ends : X → Status → Type 0) (o : Outside) → Refusing R → ((x : X) → Ends x status.Words → ⊥) → EndsCause R Ends status.Words o → ⊥
+no_words R Ends o refusing none (inl (x, given, inl ends)) = none x ends
+no_words R Ends o refusing none (inl (x, given, inr (e, rose))) = cc
+no_words R Ends o refusing none (inr cause) = is_instead R status.Words o.shelf_before o.shelf_after o.told_before o.told_after refusing cause
 
 module _ {X : Type 0} (R : Reading X) (Whole Front : X → Taken → Taken → Type 0) (s : Status) (o : Outside) where
   pub nothing_left : Refusing R → Instead R s o.shelf_before o.shelf_after o.told_before o.told_after → o.taken_after ≡ o.taken_before → AnswerLeaves R Whole Front s o
@@ -174,6 +177,7 @@ flushed_ends (status.Rules kind row rule) text a b d took ends = absurd ends
 flushed_ends (status.Unfit u) text a b d took ends = absurd ends
 flushed_ends (status.Rejected clause row) text a b d took ends = absurd ends
 flushed_ends (status.Unruly line) text a b d took ends = absurd ends
+flushed_ends (status.Alias arc ordinal) text a b d took ends = absurd ends
 
 pub flushed_cause : (s : Status) (before between now : ℕ) (a b : Option Taken) → before ≤ between → between ≤ now → IsFlushed s a b → (s ≡ status.WriteFault → Rose between now) → PutCause s before now
 flushed_cause status.Done before between now a b sooner later ends rose = (omega (arith, sooner, later), inl refl)
@@ -186,3 +190,4 @@ flushed_cause (status.Rules kind row rule) before between now a b sooner later e
 flushed_cause (status.Unfit u) before between now a b sooner later ends rose = absurd ends
 flushed_cause (status.Rejected clause row) before between now a b sooner later ends rose = absurd ends
 flushed_cause (status.Unruly line) before between now a b sooner later ends rose = absurd ends
+flushed_cause (status.Alias arc ordinal) before between now a b sooner later ends rose = absurd ends

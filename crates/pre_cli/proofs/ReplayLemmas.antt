@@ -10,6 +10,7 @@ use Rattle.pre_script.specs.declared.scripts.Script.{Script}
 use Rattle.pre_script.specs.declared.scripts.ScriptFault.{ScriptFault}
 use Rattle.pre_script.specs.declared.scripts.ScriptFault.TheVariants.{Fault, Memory}
 use Rattle.pre_script.specs.Reading.{script_of, ReadsAs}
+use Rattle.pre_history.specs.Scenario.{Scenario}
 use Rattle.pre_history.specs.History.{History}
 use Rattle.pre_history.specs.Legal.{Legal}
 use Rattle.pre_delay.specs.Runs.{IsRun}
@@ -21,16 +22,15 @@ use Rattle.pre_cli.specs.Answers.{Outside}
 use Rattle.pre_cli.specs.Certifying.{OfFiles, IsFileIn, IsNoFile, InPlace}
 use Rattle.pre_cli.specs.Curves.{CurvesHold}
 use Rattle.pre_cli.specs.Headline.{Headline}
-use Rattle.pre_cli.specs.Judging.{network_in, certified_in}
-use Rattle.pre_cli.specs.Negotiating.{first_negotiating_link}
-use Rattle.pre_cli.specs.Readings.{Reading, Instead, Gave, AnswerCause}
-use Rattle.pre_cli.specs.Replaying.{NegotiatesAt, run_network_in, script_status, ScriptRefused, script_in, Replay, scenario_in, certificate_in, planned_in, scripted_in, IsUnrulyAt, replaying, ReplayingLeaves}
+use Rattle.pre_cli.specs.Judging.{judging}
+use Rattle.pre_cli.specs.Readings.{Reading, Instead, Gave}
+use Rattle.pre_cli.specs.Replaying.{script_status, ScriptRefused, script_in, Replay, scenario_in, certificate_in, scripted_in, IsUnrulyAt, replaying, ReplayingCause, ReplayingLeaves}
 use Rattle.pre_cli.specs.Runs.{RunEnds, RunCause}
 use Rattle.pre_cli.specs.Words.{ReplayWords}
 use Rattle.pre_cli.specs.Written.{TakesTrace, TakesTextFront}
 use Rattle.pre_cli.proofs.CertifyLemmas.{of_more}
 use Rattle.pre_cli.proofs.HeadlineLemmas.{headline}
-use Rattle.pre_cli.proofs.JudgeLemmas.{certified_refusing}
+use Rattle.pre_cli.proofs.JudgeLemmas.{judging_refusing}
 use Rattle.pre_cli.proofs.ReadingLemmas.{gone_file, text_instead, IsInstead, Refusing, text_refusing, then_refusing, tested_refusing, is_instead}
 
 -- ---- a script
@@ -54,35 +54,51 @@ script_instead word net streams s before now a b = text_instead (script_in word 
 
 -- ---- which answers may come
 
-negotiating_refusing : (net : Network) (s : Status) → NegotiatesAt net s → IsInstead s
-negotiating_refusing net s (link, at, is) = subst IsInstead (sym is) tt
-
 unruly_refusing : (x : Replay) (s : Status) → IsUnrulyAt x s → IsInstead s
 unruly_refusing x s (line, breaks, is) = subst IsInstead (sym is) tt
 
 pub replaying_refusing : (words : ReplayWords) → Refusing (replaying words)
 replaying_refusing words =
     tested_refusing (scripted_in words) (λ x. CurvesHold x.0.1.0.rows x.1.sends) IsUnrulyAt
-    (then_refusing (planned_in words.plan) (λ x. script_in words.script x.0 x.1.0)
-    (then_refusing (run_network_in words.plan.net) (certified_in words.plan.streams words.plan.certificate)
-    (tested_refusing (network_in words.plan.net) (λ net. first_negotiating_link net.arcs ≡ None) NegotiatesAt text_refusing negotiating_refusing)
-    (certified_refusing words.plan.streams words.plan.certificate))
+    (then_refusing (judging words.plan) (λ x. script_in words.script x.0 x.1.0)
+    (judging_refusing words.plan)
     (λ x. text_refusing))
     unruly_refusing
 
 -- ---- the command
+
+-- which answer it is
+abbrev IsDone : Status → Type 0
+IsDone status.Done = Unit {0}
+IsDone _ = ⊥
+
+abbrev IsAlias : Status → Type 0
+IsAlias (status.Alias arc ordinal) = Unit {0}
+IsAlias _ = ⊥
+
+abbrev IsTorn : Status → Type 0
+IsTorn status.WriteFault = Unit {0}
+IsTorn _ = ⊥
+
+abbrev IsMemory : Status → Type 0
+IsMemory status.Memory = Unit {0}
+IsMemory _ = ⊥
 
 module _ (words : ReplayWords) (o : Outside) where
   -- nothing is run, and the sink is left alone
   pub nothing_run : (s : Status) → Instead (replaying words) s o.shelf_before o.shelf_after o.told_before o.told_after → o.taken_after ≡ o.taken_before → ReplayingLeaves words s o
   nothing_run s cause same =
       let is = is_instead (replaying words) s o.shelf_before o.shelf_after o.told_before o.told_after (replaying_refusing words) cause in
-      record { done = λ e. absurd (subst IsInstead e is); torn = λ e. absurd (subst IsInstead e is); stopped = λ e. inl same; nothing = λ p q r. same }
+      record { done = λ e. absurd (subst IsInstead e is); alias = λ arc ordinal e. absurd (subst IsInstead e is); torn = λ e. absurd (subst IsInstead e is); stopped = λ e. inl same; nothing = λ p q r n. same }
 
   module _ (x : Replay) (given : Gave (replaying words) o x) where
-    pub run_cause : (s : Status) → RunCause s o.sink_before o.sink_after → AnswerCause (replaying words) s o
-    run_cause status.Done cause = inl ((x, given), inl refl)
-    run_cause status.WriteFault cause = inl ((x, given), inr (refl, cause.1))
+    abbrev w : Scenario
+    w = scenario_in x
+
+    pub run_cause : (s : Status) → RunCause w s o.sink_before o.sink_after → ReplayingCause words s o
+    run_cause status.Done cause = inl (x, given, inl (inl (refl, cause.1)))
+    run_cause (status.Alias arc ordinal) cause = inl (x, given, inl (inr (arc, ordinal, refl, cause.1)))
+    run_cause status.WriteFault cause = inl (x, given, inr (refl, cause.1))
     run_cause status.Memory cause = inr (inr (inr refl))
     run_cause status.Words cause = absurd cause
     run_cause status.ReadFault cause = absurd cause
@@ -98,24 +114,34 @@ module _ (words : ReplayWords) (o : Outside) where
       trace_headline : (a b : Taken) → TakesTrace (scenario_in x) a b → Headline (scenario_in x) (certificate_in x) a b
       trace_headline a b ((h, legal, once, written, octets), flushed) = headline (scenario_in x) (certificate_in x) run good h once (timely h legal) a b legal written octets flushed
 
-      pub run_leaves : (s : Status) → RunEnds (scenario_in x) s o.taken_before o.taken_after → ReplayingLeaves words s o
+      pub run_leaves : (s : Status) → RunEnds w s o.taken_before o.taken_after → ReplayingLeaves words s o
       run_leaves status.Done ends = record {
-        done = λ e. (x, given, WhereTold-map o.taken_before o.taken_after (TakesTrace (scenario_in x)) (Headline (scenario_in x) (certificate_in x)) trace_headline ends);
-        torn = λ e. absurd (cc);
-        stopped = λ e. absurd (cc);
-        nothing = λ p q r. absurd (p refl);
+        done = λ e. (x, given, WhereTold-map o.taken_before o.taken_after (TakesTrace w) (Headline w (certificate_in x)) trace_headline ends);
+        alias = λ arc ordinal e. absurd (subst IsDone e tt);
+        torn = λ e. absurd (subst IsDone e tt);
+        stopped = λ e. absurd (subst IsDone e tt);
+        nothing = λ p q r n. absurd (p refl);
+      }
+      run_leaves (status.Alias arc ordinal) ends = record {
+        done = λ e. absurd (subst IsAlias e tt);
+        alias = λ a i e. (x, given, subst (λ t. RunEnds w t o.taken_before o.taken_after) e ends);
+        torn = λ e. absurd (subst IsAlias e tt);
+        stopped = λ e. absurd (subst IsAlias e tt);
+        nothing = λ p q r n. absurd (n arc ordinal refl);
       }
       run_leaves status.WriteFault ends = record {
-        done = λ e. absurd (cc);
+        done = λ e. absurd (subst IsTorn e tt);
+        alias = λ arc ordinal e. absurd (subst IsTorn e tt);
         torn = λ e. (x, given, ends);
-        stopped = λ e. absurd (cc);
-        nothing = λ p q r. absurd (q refl);
+        stopped = λ e. absurd (subst IsTorn e tt);
+        nothing = λ p q r n. absurd (q refl);
       }
       run_leaves status.Memory ends = record {
-        done = λ e. absurd (cc);
-        torn = λ e. absurd (cc);
+        done = λ e. absurd (subst IsMemory e tt);
+        alias = λ arc ordinal e. absurd (subst IsMemory e tt);
+        torn = λ e. absurd (subst IsMemory e tt);
         stopped = λ e. inr (x, given, ends);
-        nothing = λ p q r. absurd (r refl);
+        nothing = λ p q r n. absurd (r refl);
       }
       run_leaves status.Words ends = absurd ends
       run_leaves status.ReadFault ends = absurd ends

@@ -1,7 +1,8 @@
 -- What a run told, as what its sink took.
 use Rattle.std.proofs.Common.{◌≡◌, ℕ, List, [], ◌∷◌, ◌++◌, Option, None, Some, refl, sym, ◌∙◌, ap, inl, inr, subst, append_assoc, arith}
 use Rattle.std.proofs.lemmas.List.{append-nil}
-use Rattle.pre_base.specs.Told.{WhereTold, StillTells}
+use Rattle.pre_base.specs.declared.numbers.ArcId.{ArcId}
+use Rattle.pre_base.specs.Told.{WhereTold, WhereTold-join, StillTells}
 use Rattle.pre_base.specs.Sinks.{Taken}
 use Rattle.pre_topo.specs.declared.network.Network.{Network}
 use Rattle.pre_history.specs.Scenario.{Scenario}
@@ -18,8 +19,12 @@ use Rattle.pre_sim.specs.Parts.{IsFrontOfLegal}
 use Rattle.pre_sim.specs.Telling.{TellsAll}
 use Rattle.pre_sim.specs.Views.{SimView, HasTold}
 use Rattle.pre_sim.specs.Steps.{StepTells}
-use Rattle.pre_cli.specs.Written.{TakesText, IsLegalSoFar, TakesTextFront}
-use Rattle.pre_cli.specs.Runs.{RunLeaves}
+use Rattle.pre_history.specs.Placed.{moment_of}
+use Rattle.pre_history.specs.Moments.{Phase}
+use Rattle.pre_cli.specs.Written.{TakesText, IsBeforeAlias, TakesTextBefore, TakesTraceBefore, IsLegalSoFar, TakesTextFront}
+use Rattle.pre_cli.specs.declared.statuses.Status.{Status}
+use Rattle.pre_cli.specs.declared.statuses.Status.TheVariants as status
+use Rattle.pre_cli.specs.Runs.{RunLeaves, RunComesTo, RunEnds, FlushEnds}
 
 text-append : (net : Network) (g h : History) → text net (g ++ h) ≡ text net g ++ text net h
 text-append net [] h = refl
@@ -76,17 +81,36 @@ module _ (w : Scenario) (once : DeliverOnce w) where
       whole : (p q r s : List ℕ) → (p ++ (q ++ r)) ++ s ≡ (p ++ q) ++ (r ++ s)
       whole p q r s = ap (λ (l : List ℕ). l ++ s) (sym (append_assoc p q r)) ∙ append_assoc (p ++ q) r s
 
+  -- what was told before the first alias
+  text_before : (a b : Option Taken) → StillTells a b → (arc ordinal : ℕ) (es : History) → TellsAll w.net (HoldsText w.net a) (HoldsText w.net b) es → IsBeforeAlias w arc ordinal es → WhereTold a b (TakesTextBefore w arc ordinal)
+  text_before None None still arc ordinal es told before = tt
+  text_before None (Some y) still arc ordinal es told before = absurd still
+  text_before (Some x) None still arc ordinal es told before = absurd still
+  text_before (Some x) (Some y) still arc ordinal es told before =
+      (es, before, once.so_far (moment_of w before.0 (Phase.arrivals arc)) es before.1.2, told.0, taken w.net x y es told)
+
   module _ (s u : SimView) (same : s.run ≡ w) (begun : HasTold s []) where
     pub run_leaves : (step : Step) (a b : Option Taken) → StillTells a b → (step ≡ More → ⊥) → StepTells s step u (HoldsText w.net a) (HoldsText w.net b) (HoldsTorn w.net b) → RunLeaves w step a b
     run_leaves More a b still last told = absurd (last refl)
     run_leaves Ended a b still last (es, told, ends) =
         let legal : Legal w es = subst (λ (v : Scenario). Legal v es) same (ends [] begun) in
         whole_text a b still es (subst (λ (v : Scenario). TellsAll v.net (HoldsText w.net a) (HoldsText w.net b) es) same told) legal
-    run_leaves (Alias arc ordinal) a b still last told = told
+    run_leaves (Alias arc ordinal) a b still last (es, told, first) =
+        let before : IsBeforeAlias w arc.0 ordinal es = subst (λ (v : Scenario). IsBeforeAlias v arc.0 ordinal es) same (first [] begun) in
+        text_before a b still arc.0 ordinal es (subst (λ (v : Scenario). TellsAll v.net (HoldsText w.net a) (HoldsText w.net b) es) same told) before
     run_leaves Stopped a b still last (es, e, all, one, torn, front) =
         torn_text a b still es e (subst (λ (v : Scenario). AreWritten v.net es) same all) (subst (λ (v : Scenario). IsWritten v.net e) same one) torn (subst (λ (v : Scenario). IsFrontOfLegal v (es ++ e ∷ [])) same (front [] begun))
     run_leaves Memory a b still last (es, told, front) =
         front_text a b still es (subst (λ (v : Scenario). TellsAll v.net (HoldsText w.net a) (HoldsText w.net b) es) same told) (subst (λ (v : Scenario). IsFrontOfLegal v es) same (front [] begun))
+
+-- a run comes to what its last step says, whatever its watcher holds
+module _ (w : Scenario) (s u : SimView) (same : s.run ≡ w) (begun : HasTold s []) where
+  pub run_comes : (step : Step) (a b : List ℕ → History → Type 0) (torn : List ℕ → History → PlainEvent → Type 0) → (step ≡ More → ⊥) → StepTells s step u a b torn → RunComesTo w step
+  run_comes More a b torn last told = absurd (last refl)
+  run_comes Ended a b torn last (es, told, ends) = (es, subst (λ (v : Scenario). Legal v es) same (ends [] begun))
+  run_comes (Alias arc ordinal) a b torn last (es, told, first) = (es, subst (λ (v : Scenario). IsBeforeAlias v arc.0 ordinal es) same (first [] begun))
+  run_comes Stopped a b torn last told = tt
+  run_comes Memory a b torn last told = tt
 
 -- nothing was told yet
 nothing_legal : (w : Scenario) → LegalBefore w [] 0
@@ -95,3 +119,22 @@ nothing_legal w = (refl, λ a k d lt. absurd (omega (arith, lt)))
 pub nothing_left : (w : Scenario) → DeliverOnce w → (a : Option Taken) → WhereTold a a (TakesTextFront w)
 nothing_left w once None = tt
 nothing_left w once (Some x) = ([], [], inr (0, nothing_legal w), once.so_far 0 [] (nothing_legal w), ([], refl, sym (append-nil x.octets)))
+
+-- ---- passed on
+
+-- what was told before the first alias is a front
+before_front : (w : Scenario) (arc ordinal : ℕ) (a b : Taken) → TakesTextBefore w arc ordinal a b → TakesTextFront w a b
+before_front w arc ordinal a b (h, first, once, written, octets) =
+    (h, [], inr (moment_of w first.0 (Phase.arrivals arc), first.1.2), once, (text w.net h, sym (append-nil (text w.net h)), octets))
+
+pub flushed_before : (w : Scenario) (arc : ArcId) (ordinal : ℕ) (s : Status) (a b d : Option Taken) (before now : ℕ) → WhereTold a b (TakesTextBefore w arc.0 ordinal) → FlushEnds (status.Alias arc ordinal) s b d before now → RunEnds w s a d
+flushed_before w arc ordinal s a b d before now took (inl (is, told, later)) =
+    subst (λ t. RunEnds w t a d) (sym is) (WhereTold-join a b d _ _ (TakesTraceBefore w arc.0 ordinal) (λ x y z p q. (still x y z p q.0, q.1)) took told)
+  where
+    still : (x y z : Taken) → TakesTextBefore w arc.0 ordinal x y → z.octets ≡ y.octets → TakesTextBefore w arc.0 ordinal x z
+    still x y z (h, first, once, written, octets) same = (h, first, once, written, same ∙ octets)
+flushed_before w arc ordinal s a b d before now took (inr (is, told, later, rose)) =
+    subst (λ t. RunEnds w t a d) (sym is) (WhereTold-join a b d _ _ (TakesTextFront w) (λ x y z p q. front x y z (before_front w arc.0 ordinal x y p) q) took told)
+  where
+    front : (x y z : Taken) → TakesTextFront w x y → z.octets ≡ y.octets → TakesTextFront w x z
+    front x y z (h, rest, legal, once, begun) same = (h, rest, legal, once, (begun.0, begun.1, same ∙ begun.2))

@@ -131,6 +131,7 @@ InPlace status.Done gone refused before now old new = ⊥
 InPlace status.Words gone refused before now old new = ⊥
 InPlace (status.Rejected clause row) gone refused before now old new = ⊥
 InPlace (status.Unruly line) gone refused before now old new = ⊥
+InPlace (status.Alias arc ordinal) gone refused before now old new = ⊥
 InPlace status.WriteFault gone refused before now old new = ⊥
 InPlace (status.Unfit cause) gone refused before now old new = ⊥
 
@@ -169,6 +170,7 @@ CertifiedCause status.Memory net streams before now = Unit {0}
 CertifiedCause status.Words net streams before now = ⊥
 CertifiedCause (status.Rejected clause row) net streams before now = ⊥
 CertifiedCause (status.Unruly line) net streams before now = ⊥
+CertifiedCause (status.Alias arc ordinal) net streams before now = ⊥
 CertifiedCause status.ReadFault net streams before now = ⊥
 CertifiedCause (status.Form kind line rule) net streams before now = ⊥
 CertifiedCause (status.Rules kind row rule) net streams before now = ⊥
@@ -186,6 +188,7 @@ CertifiedLeaves status.Memory net streams old new = new ≡ old
 CertifiedLeaves status.Words net streams old new = new ≡ old
 CertifiedLeaves (status.Rejected clause row) net streams old new = new ≡ old
 CertifiedLeaves (status.Unruly line) net streams old new = new ≡ old
+CertifiedLeaves (status.Alias arc ordinal) net streams old new = new ≡ old
 CertifiedLeaves status.ReadFault net streams old new = new ≡ old
 CertifiedLeaves (status.Form kind line rule) net streams old new = new ≡ old
 CertifiedLeaves (status.Rules kind row rule) net streams old new = new ≡ old
@@ -227,6 +230,7 @@ CertifyingCause status.Memory net_word streams_word o = Unit {0}
 CertifyingCause status.Words net_word streams_word o = ⊥
 CertifyingCause (status.Rejected clause row) net_word streams_word o = ⊥
 CertifyingCause (status.Unruly line) net_word streams_word o = ⊥
+CertifyingCause (status.Alias arc ordinal) net_word streams_word o = ⊥
 
 -- the sink took this of what the two texts give
 abbrev pub OfBoth : List ℕ → List ℕ → Outside → (Network → Streams → Type 0) → Type 0
@@ -245,3 +249,4 @@ CertifyingLeaves status.Memory net_word streams_word o = o.taken_after ≡ o.tak
 CertifyingLeaves status.Words net_word streams_word o = o.taken_after ≡ o.taken_before
 CertifyingLeaves (status.Rejected clause row) net_word streams_word o = o.taken_after ≡ o.taken_before
 CertifyingLeaves (status.Unruly line) net_word streams_word o = o.taken_after ≡ o.taken_before
+CertifyingLeaves (status.Alias arc ordinal) net_word streams_word o = o.taken_after ≡ o.taken_before

@@ -5,7 +5,7 @@ use Rattle.pre_cli.specs.declared.statuses.Status.{Status}
 use Rattle.pre_cli.specs.declared.statuses.Status.TheVariants as status
 use Rattle.pre_cli.specs.Words.{ReplayWords, replay_named}
 use Rattle.pre_cli.specs.Answers.{Outside}
-use Rattle.pre_cli.specs.Replaying.{replaying, ReplayingLeaves}
+use Rattle.pre_cli.specs.Replaying.{ReplayingCause, ReplayingLeaves}
 use Rattle.pre_cli.specs.Readings.{AnswerCause, AnswerLeaves}
 use Rattle.pre_cli.specs.Judging.{judging, Accepts, AcceptsFront, Migrates, MigratesFront}
 use Rattle.pre_cli.specs.Words.{JudgeWords, judge_named}
@@ -60,7 +60,7 @@ CauseBy (certifies net streams) s o = CertifyingCause s net streams o
 CauseBy (lists name) s o = ListingCause s name o
 CauseBy (judges words) s o = AnswerCause (judging words) s o
 CauseBy (migrates words) s o = AnswerCause (judging words) s o
-CauseBy (replays words) s o = AnswerCause (replaying words) s o
+CauseBy (replays words) s o = ReplayingCause words s o
 CauseBy unknown s o = s ≡ status.Words
 
 abbrev pub CauseOf : Status → List (List ℕ) → Outside → Type 0

@@ -12,7 +12,6 @@ pub mod Certifying
 pub mod Readings
 pub mod Putting
 pub mod Judging
-pub mod Negotiating
 pub mod Curves
 pub mod Headline
 pub mod Replaying

@@ -68,6 +68,7 @@ abbrev pub ListingCause : Status → List ℕ → Outside → Type 0
 ListingCause status.Words name o = ⊥
 ListingCause (status.Rejected clause row) name o = ⊥
 ListingCause (status.Unruly line) name o = ⊥
+ListingCause (status.Alias arc ordinal) name o = ⊥
 ListingCause (status.Rules kind row rule) name o = ⊥
 ListingCause (status.Unfit unfit) name o = ⊥
 ListingCause status.ReadFault name o = IsMissing o.told_before name ⊎ Rose o.shelf_before o.shelf_after

@@ -61,11 +61,16 @@ Gave R o x = WhereTold o.told_before o.told_after (OfFiles (R.gives x))
 abbrev pub IsWritten : Status → ℕ → ℕ → Type 0
 IsWritten s before now = (s ≡ status.Done) ⊎ ((s ≡ status.WriteFault) × Rose before now)
 
--- the cause of each answer of a command that reads so, and then writes
-abbrev pub AnswerCause : {X : Type 0} → Reading X → Status → Outside → Type 0
-AnswerCause {X} R s o =
-    (((x : X) × Gave R o x) × IsWritten s o.sink_before o.sink_after)
+-- The cause of each answer of a command that reads so, and then writes: where the files gave a value, one of the answers to
+-- which it leads, or a failure of the sink.
+abbrev pub EndsCause : {X : Type 0} → Reading X → (X → Status → Type 0) → Status → Outside → Type 0
+EndsCause {X} R Ends s o =
+    ((x : X) × Gave R o x × (Ends x s ⊎ ((s ≡ status.WriteFault) × Rose o.sink_before o.sink_after)))
     ⊎ Instead R s o.shelf_before o.shelf_after o.told_before o.told_after
+
+-- that of one that leads to no other answer than Done
+abbrev pub AnswerCause : {X : Type 0} → Reading X → Status → Outside → Type 0
+AnswerCause R s o = EndsCause R (λ x t. t ≡ status.Done) s o
 
 -- the sink took this of the value that the files gave
 abbrev pub Took : {X : Type 0} → Reading X → Outside → (X → Taken → Taken → Type 0) → Type 0
@@ -91,15 +96,18 @@ ComeTo R (refuses s) files = R.refused s files
 ComeTo R (reads x) files = R.gives x files
 
 -- what is answered to it
-abbrev pub IsDue : {X : Type 0} → Outside → Outcome X → Status → Type 0
-IsDue o missing s = (s ≡ status.ReadFault) ⊎ (s ≡ status.Memory)
-IsDue o (refuses t) s = (s ≡ t) ⊎ GivesUp o s
-IsDue o (reads x) s = (s ≡ status.Done) ⊎ ((s ≡ status.WriteFault) × Rose o.sink_before o.sink_after) ⊎ GivesUp o s
+abbrev pub EndIsDue : {X : Type 0} → (X → Status → Type 0) → Outside → Outcome X → Status → Type 0
+EndIsDue Ends o missing s = (s ≡ status.ReadFault) ⊎ (s ≡ status.Memory)
+EndIsDue Ends o (refuses t) s = (s ≡ t) ⊎ GivesUp o s
+EndIsDue Ends o (reads x) s = Ends x s ⊎ ((s ≡ status.WriteFault) × Rose o.sink_before o.sink_after) ⊎ GivesUp o s
 
 -- files come to one outcome at most
 abbrev pub OneOutcome : {X : Type 0} → Reading X → Type 0
 OneOutcome {X} R = (files : Files) (a b : Outcome X) → ComeTo R a files → ComeTo R b files → a ≡ b
 
 -- and it is answered, but where memory isn't found or the shelf or sink fails
+abbrev pub EndsAreDue : {X : Type 0} → Reading X → (X → Status → Type 0) → Type 0
+EndsAreDue {X} R Ends = (s : Status) (outcome : Outcome X) (o : Outside) (told : Told) → TellsFiles o told → ComeTo R outcome told.files → EndsCause R Ends s o → EndIsDue Ends o outcome s
+
 abbrev pub DueIsAnswered : {X : Type 0} → Reading X → Type 0
-DueIsAnswered {X} R = (s : Status) (outcome : Outcome X) (o : Outside) (told : Told) → TellsFiles o told → ComeTo R outcome told.files → AnswerCause R s o → IsDue o outcome s
+DueIsAnswered R = EndsAreDue R (λ x s. s ≡ status.Done)

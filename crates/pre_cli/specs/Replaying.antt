@@ -2,8 +2,7 @@
 use Rattle.std.specs.Prelude.{◌≡◌, ◌≢◌, ◌⊎◌, ℕ, List, Some, None, Ok, Err}
 use Rattle.std.specs.FinMap.{get}
 use Rattle.pre_base.specs.Shelves.{Files}
-use Rattle.pre_base.specs.Sinks.{Taken}
-use Rattle.pre_base.specs.declared.numbers.FileRow.TheVariants.{Link}
+use Rattle.pre_base.specs.declared.numbers.ArcId.{ArcId}
 use Rattle.pre_topo.specs.declared.network.Network.{Network}
 use Rattle.pre_streams.specs.declared.rows.Streams.{Streams}
 use Rattle.pre_bound.specs.declared.certificate.Certificate.{Certificate}
@@ -19,26 +18,10 @@ use Rattle.pre_cli.specs.Answers.{Outside}
 use Rattle.pre_cli.specs.Certifying.{IsFileIn, IsLongFile}
 use Rattle.pre_cli.specs.Curves.{CurvesHold, IsUnruly}
 use Rattle.pre_cli.specs.Headline.{Headline}
-use Rattle.pre_cli.specs.Judging.{network_in, certified_in}
-use Rattle.pre_cli.specs.Words.{JudgeWords}
-use Rattle.pre_cli.specs.Negotiating.{first_negotiating_link}
-use Rattle.pre_cli.specs.Readings.{Reading, then_read, tested, IsTextAnswer, Took}
+use Rattle.pre_cli.specs.Judging.{judging}
+use Rattle.pre_cli.specs.Readings.{Reading, then_read, tested, IsTextAnswer, EndsCause, Took}
 use Rattle.pre_cli.specs.Words.{ReplayWords}
-use Rattle.pre_cli.specs.Written.{TakesTextFront}
-
--- ---- a network to run over
-
--- the answer to a network with such a link, for now
-abbrev pub negotiating_status : ℕ → Status
-negotiating_status link = status.Rules file.Net (Link link) 5
-
--- a link of the network negotiates, and this is the answer
-abbrev pub NegotiatesAt : Network → Status → Type 0
-NegotiatesAt net s = (link : ℕ) × (first_negotiating_link net.arcs ≡ Some link) × (s ≡ negotiating_status link)
-
--- a network of which no link negotiates, since no run knows such links yet
-abbrev pub run_network_in : List ℕ → Reading Network
-run_network_in word = tested (network_in word) (λ net. first_negotiating_link net.arcs ≡ None) NegotiatesAt
+use Rattle.pre_cli.specs.Written.{HasHistory, IsFirstAlias, TakesTraceBefore, TakesTextFront}
 
 -- ---- a script
 
@@ -76,13 +59,9 @@ scenario_in x = record { net = x.0.0; streams = x.0.1.0; script = x.1 }
 abbrev pub certificate_in : Replay → Certificate
 certificate_in x = x.0.1.1
 
--- a network to run over, streams and a good certificate for them
-abbrev pub planned_in : JudgeWords → Reading (Network × (Streams × Certificate))
-planned_in words = then_read (run_network_in words.net) (certified_in words.streams words.certificate)
-
--- and then a script for them
+-- a network, streams and a good certificate for them, and then a script
 abbrev pub scripted_in : ReplayWords → Reading Replay
-scripted_in words = then_read (planned_in words.plan) (λ x. script_in words.script x.0 x.1.0)
+scripted_in words = then_read (judging words.plan) (λ x. script_in words.script x.0 x.1.0)
 
 -- sends break a curve, and this is the answer
 abbrev pub IsUnrulyAt : Replay → Status → Type 0
@@ -92,12 +71,23 @@ IsUnrulyAt x s = (line : ℕ) × IsUnruly x.0.1.0.rows x.1.sends line × (s ≡ 
 abbrev pub replaying : ReplayWords → Reading Replay
 replaying words = tested (scripted_in words) (λ x. CurvesHold x.0.1.0.rows x.1.sends) IsUnrulyAt
 
+-- ---- where a run leads
+
+-- A run is done where it has a legal history, and stops before the first alias where it has one.
+abbrev pub RunsTo : Scenario → Status → Type 0
+RunsTo w s = ((s ≡ status.Done) × HasHistory w) ⊎ ((arc : ArcId) × (ordinal : ℕ) × (s ≡ status.Alias arc ordinal) × IsFirstAlias w arc.0 ordinal)
+
+-- the cause of each answer
+abbrev pub ReplayingCause : ReplayWords → Status → Outside → Type 0
+ReplayingCause words s o = EndsCause (replaying words) (λ x t. RunsTo (scenario_in x) t) s o
+
 -- ---- what the sink took
 
--- What the sink took, by the answer: on Done the trace of the run, of which the headline holds; a front of it where writing
--- failed; nothing or a front of it where memory ran out; and else nothing.
+-- What the sink took, by the answer: on Done the trace of the run, of which the headline holds; on Alias the trace before that
+-- arrival; a front of a trace where writing failed; nothing or a front of it where memory ran out; and else nothing.
 pub record ReplayingLeaves (words : ReplayWords) (s : Status) (o : Outside) : Type 0 where
   pub done : s ≡ status.Done → Took (replaying words) o (λ x. Headline (scenario_in x) (certificate_in x))
+  pub alias : (arc : ArcId) (ordinal : ℕ) → s ≡ status.Alias arc ordinal → Took (replaying words) o (λ x. TakesTraceBefore (scenario_in x) arc.0 ordinal)
   pub torn : s ≡ status.WriteFault → Took (replaying words) o (λ x. TakesTextFront (scenario_in x))
   pub stopped : s ≡ status.Memory → (o.taken_after ≡ o.taken_before) ⊎ Took (replaying words) o (λ x. TakesTextFront (scenario_in x))
-  pub nothing : s ≢ status.Done → s ≢ status.WriteFault → s ≢ status.Memory → o.taken_after ≡ o.taken_before
+  pub nothing : s ≢ status.Done → s ≢ status.WriteFault → s ≢ status.Memory → ((arc : ArcId) (ordinal : ℕ) → s ≢ status.Alias arc ordinal) → o.taken_after ≡ o.taken_before

@@ -30,6 +30,7 @@ number_of (status.Rules kind row rule) = 5
 number_of (status.Unfit cause) = unfit_number cause
 number_of (status.Rejected clause row) = 7
 number_of (status.Unruly line) = 8
+number_of (status.Alias arc ordinal) = 9
 number_of status.Memory = 10
 
 abbrev pub file_word : FileWord → List ℕ
@@ -78,4 +79,5 @@ text_of (status.Rules kind row rule) = (codes "rules " ++ file_word kind) ++ (ro
 text_of (status.Unfit cause) = unfit_text cause
 text_of (status.Rejected clause row) = codes "rejected" ++ (behind_space clause ++ behind_space row)
 text_of (status.Unruly line) = codes "unruly" ++ behind_space line
+text_of (status.Alias arc ordinal) = codes "alias" ++ (behind_space arc.0 ++ behind_space ordinal)
 text_of status.Memory = codes "memory"

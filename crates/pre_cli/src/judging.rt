@@ -116,19 +116,20 @@ pub(crate) fn certified_named<H: Shelf>(
 
 /// A network, and what is certified over it.
 #[derive(Drop)]
-struct Judged {
-    net: Network,
-    certified: Certified,
+pub(crate) struct Judged {
+    pub net: Network,
+    pub certified: Certified,
 }
 
 /// The network, the streams and the good certificate that three words stand for, or the answer in their place.
-fn judged_named<H: Shelf>(
+pub(crate) fn judged_named<H: Shelf>(
     alloc: Global,
     net_word: &str,
     streams_word: &str,
     certificate_word: &str,
     shelf: &mut H,
 ) -> Result<Judged, Status>
+    ensures fits { IfOk result (λ x. Fits x.net x.certified.streams) }
     ensures good { IfOk result (λ x. GoodCertificate x.net x.certified.streams x.certified.certificate) }
     ensures judged { IfOk result (λ x. WhereTold (H.tells shelf.old) (H.tells shelf.new) (OfFiles ((judging (judge_words net_word.now streams_word.now certificate_word.now)).gives (x.net, (x.certified.streams, x.certified.certificate))))) }
     ensures cause { IfErr result (λ s. Instead (judging (judge_words net_word.now streams_word.now certificate_word.now)) s (H.faults shelf.old) (H.faults shelf.new) (H.tells shelf.old) (H.tells shelf.new)) }

@@ -11,21 +11,24 @@ ghost use Rattle.pre_cli.specs.declared.statuses.Status.{Status};
 ghost use Rattle.pre_cli.specs.declared.statuses.Status.TheVariants as status;
 ghost use Rattle.pre_cli.specs.Answers.{Outside};
 ghost use Rattle.pre_cli.specs.Commands.{command_of, unknown, CauseOf};
-ghost use Rattle.pre_cli.specs.Readings.{OneOutcome, DueIsAnswered};
-ghost use Rattle.pre_cli.specs.Replaying.{replaying};
+ghost use Rattle.pre_cli.specs.Readings.{OneOutcome, EndsAreDue};
+ghost use Rattle.pre_cli.specs.Replaying.{RunsTo, replaying, scenario_in};
 ghost use Rattle.pre_cli.specs.Words.{ReplayWords};
 ghost use Rattle.pre_cli.specs.Written.{TakesText};
 
 /// The cause of each answer leaves no other answer. Wrong words are answered as such. Where a script is to be run, files
 /// come to one outcome at most: a text that isn't there at its turn; the first one that is refused, a certificate that is
-/// rejected or sends that break a curve; or one network, streams, certificate and script that are run. This is answered, but
-/// where memory isn't found or the shelf or sink fails.
+/// rejected or sends that break a curve; or one network, streams, certificate and script that are run. A run leads to one
+/// answer, Done or the first alias. This is answered, but where memory isn't found or the shelf or sink fails.
 pub fn due_answers()
     ensures words { (s : Status) (words : List (List ℕ)) (o : Outside) → command_of words ≡ unknown → CauseOf s words o → s ≡ status.Words }
     ensures known { (words : List (List ℕ)) (o : Outside) → CauseOf status.Words words o → command_of words ≡ unknown }
     ensures alone { (words : ReplayWords) → OneOutcome (replaying words) }
-    ensures replay { (words : ReplayWords) → DueIsAnswered (replaying words) }
-{}
+    ensures runs { (w : Scenario) → (s : Status) × RunsTo w s × ((t : Status) → RunsTo w t → t ≡ s) }
+    ensures replay { (words : ReplayWords) → EndsAreDue (replaying words) (λ x s. RunsTo (scenario_in x) s) }
+{
+    pre_history::one_history();
+}
 
 /// What a sink took beyond what it had is the text of one history at most, of those that can be told over the network. So
 /// where it took a run's trace, every such history with that text is the legal one.

@@ -10,7 +10,6 @@ mod judging_laws;
 mod laws;
 mod listing_laws;
 mod listings;
-mod negotiating;
 mod packet_files;
 mod preempts;
 mod refusals;

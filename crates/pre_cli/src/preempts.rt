@@ -22,8 +22,6 @@ use std::alloc::Global;
 /// each delivery is a frame that was sent, octet for octet, and none is delivered twice; of `mpackets` the listing, and of
 /// `certify` the text of a certificate that is good and least. Where writing failed, or memory ran out in a run, it took a
 /// front of such a text, and else nothing.
-///
-/// For now `replay` refuses a network with a link that negotiates as rule 5, with the first such link as its row.
 pub fn preempt<H: Shelf, S: Sink>(
     alloc: Global,
     words: &[String],

@@ -140,3 +140,12 @@ pub(crate) fn put_unruly<S: Sink>(sink: &mut S, line: u64) -> Result<(), Failed>
 {
     put_numbered(sink, b"unruly", line)
 }
+
+/// Writes the arrival before which a run stopped.
+pub(crate) fn put_alias<S: Sink>(sink: &mut S, arc: u64, ordinal: u64) -> Result<(), Failed>
+    ensures octets { WhereTold (S.tells sink.old) (S.tells sink.new) (TakesAll result (codes "alias" ++ (behind_space arc ++ behind_space ordinal))) }
+    ensures cause { HasCause (S.faults sink.old) (S.faults sink.new) result }
+{
+    write_all(sink, b"alias")?;
+    put_place(sink, arc, ordinal)
+}

@@ -4,23 +4,21 @@ ghost use Rattle.pre_bound.specs.Listed.{GoodCertificate};
 ghost use Rattle.pre_delay.specs.Runs.{IsRun};
 ghost use Rattle.pre_script.specs.Fits as lines;
 ghost use Rattle.pre_streams.specs.Fits as rows;
-ghost use Rattle.pre_sim.specs.Reach.{CanRun};
+ghost use Rattle.pre_sim.specs.Reach.{AllFit};
 ghost use Rattle.pre_sim.specs.Steps.{StepTells, StepCause};
 ghost use Rattle.pre_cli.specs.Certifying.{OfFiles, InPlace, IsNoFile};
 ghost use Rattle.pre_cli.specs.Curves.{CurvesHold};
-ghost use Rattle.pre_cli.specs.Negotiating.{first_negotiating_link};
-ghost use Rattle.pre_cli.specs.Readings.{Instead, AnswerCause};
-ghost use Rattle.pre_cli.specs.Replaying.{run_network_in, planned_in, scripted_in, replaying, IsScriptIn, ScriptRefused, ReplayingLeaves};
+ghost use Rattle.pre_cli.specs.Readings.{Instead};
+ghost use Rattle.pre_cli.specs.Replaying.{scripted_in, replaying, IsScriptIn, ScriptRefused, ReplayingCause, ReplayingLeaves};
 ghost use Rattle.pre_cli.specs.Replaying as replaying;
-ghost use Rattle.pre_cli.specs.Runs.{RunLeaves, RunEnds, RunCause, FlushEnds};
-ghost use Rattle.pre_cli.specs.Words.{judge_words, replay_words};
+ghost use Rattle.pre_cli.specs.Runs.{RunComesTo, RunLeaves, RunEnds, RunCause, FlushEnds};
+ghost use Rattle.pre_cli.specs.Words.{replay_words};
 
-use crate::certifying::{file_text, network_named};
+use crate::certifying::file_text;
 use crate::curves::{prios_below, unruly_line};
-use crate::judging::{Certified, certified_named};
-use crate::negotiating::first_negotiating_link;
+use crate::judging::{Judged, judged_named};
 use crate::{FileWord, Status};
-use pre_base::{FileRow, Shelf, Sink};
+use pre_base::{Shelf, Sink};
 use pre_delay::{files_make_a_run, network_law};
 use pre_laws::{deliveries_are_of_frames_sent, files_give_routes};
 use pre_script::{Script, ScriptFault, read_script};
@@ -54,9 +52,10 @@ pub(crate) fn run<S: Sink>(
     script: &Script,
     sink: &mut S,
 ) -> Step
-    requires { CanRun net.now streams.now script.now }
+    requires { AllFit net.now streams.now script.now }
     ensures last { result ≢ Step.More }
     ensures cause { StepCause result (S.faults sink.old) (S.faults sink.new) }
+    ensures comes { RunComesTo (record { net = net.now; streams = streams.now; script = script.now }) result }
     ensures octets { RunLeaves (record { net = net.now; streams = streams.now; script = script.now }) result (S.tells sink.old) (S.tells sink.new) }
 {
     files_give_routes();
@@ -68,13 +67,12 @@ pub(crate) fn run<S: Sink>(
     run_on(&mut sim, &mut watcher)
 }
 
-/// Passes on what was written.
-fn flushed<S: Sink>(sink: &mut S) -> Status
-    ensures ends { FlushEnds result (S.tells sink.old) (S.tells sink.new) }
-    ensures cause { RunCause result (S.faults sink.old) (S.faults sink.new) }
+/// Passes on what was written: the status given, or that the sink failed.
+fn flushed<S: Sink>(sink: &mut S, status: Status) -> Status
+    ensures { FlushEnds status result (S.tells sink.old) (S.tells sink.new) (S.faults sink.old) (S.faults sink.new) }
 {
     match sink.flush() {
-        Ok(()) => Status::Done,
+        Ok(()) => status,
         Err(_) => Status::WriteFault,
     }
 }
@@ -87,42 +85,16 @@ fn trace<S: Sink>(
     script: &Script,
     sink: &mut S,
 ) -> Status
-    requires { CanRun net.now streams.now script.now }
+    requires { AllFit net.now streams.now script.now }
     ensures ends { RunEnds (record { net = net.now; streams = streams.now; script = script.now }) result (S.tells sink.old) (S.tells sink.new) }
-    ensures cause { RunCause result (S.faults sink.old) (S.faults sink.new) }
+    ensures cause { RunCause (record { net = net.now; streams = streams.now; script = script.now }) result (S.faults sink.old) (S.faults sink.new) }
 {
     match run(alloc, net, streams, script, sink) {
-        Step::Ended => flushed(sink),
+        Step::Ended => flushed(sink, Status::Done),
+        Step::Alias { arc, ordinal } => flushed(sink, Status::Alias { arc, ordinal }),
         Step::Stopped => Status::WriteFault,
         Step::Memory => Status::Memory,
-        Step::More | Step::Alias { .. } => unreachable!(),
-    }
-}
-
-/// A run can't go over this link yet: it is answered as one whose mode is out of range.
-fn negotiating_status(link: u64) -> Status
-    ensures { result ≡ replaying.negotiating_status link }
-{
-    Status::Rules {
-        file: FileWord::Net,
-        row: FileRow::Link(link),
-        rule: 5,
-    }
-}
-
-/// The network that a word stands for, where a run can go over it, or the answer in its place.
-fn run_network<H: Shelf>(alloc: Global, word: &str, shelf: &mut H) -> Result<Network, Status>
-    ensures modes { IfOk result (λ net. first_negotiating_link net.arcs ≡ None) }
-    ensures net { IfOk result (λ net. WhereTold (H.tells shelf.old) (H.tells shelf.new) (OfFiles ((run_network_in word.now).gives net))) }
-    ensures cause { IfErr result (λ s. Instead (run_network_in word.now) s (H.faults shelf.old) (H.faults shelf.new) (H.tells shelf.old) (H.tells shelf.new)) }
-    ensures later { H.faults shelf.old ≤ H.faults shelf.new }
-{
-    match network_named(alloc, word, shelf) {
-        Ok(net) => match first_negotiating_link(&net) {
-            Some(link) => Err(negotiating_status(link)),
-            None => Ok(net),
-        },
-        Err(status) => Err(status),
+        Step::More => unreachable!(),
     }
 }
 
@@ -161,41 +133,10 @@ fn script_in<H: Shelf>(
     }
 }
 
-/// What a run goes over: a network, streams and a good certificate for them.
-#[derive(Drop)]
-struct Planned {
-    net: Network,
-    certified: Certified,
-}
-
-/// What three words stand for, each text read and tested before the next one, or the answer in its place.
-fn planned_named<H: Shelf>(
-    alloc: Global,
-    net_word: &str,
-    streams_word: &str,
-    certificate_word: &str,
-    shelf: &mut H,
-) -> Result<Planned, Status>
-    ensures modes { IfOk result (λ x. first_negotiating_link x.net.arcs ≡ None) }
-    ensures fits { IfOk result (λ x. rows.Fits x.net x.certified.streams) }
-    ensures good { IfOk result (λ x. GoodCertificate x.net x.certified.streams x.certified.certificate) }
-    ensures planned { IfOk result (λ x. WhereTold (H.tells shelf.old) (H.tells shelf.new) (OfFiles ((planned_in (judge_words net_word.now streams_word.now certificate_word.now)).gives (x.net, (x.certified.streams, x.certified.certificate))))) }
-    ensures cause { IfErr result (λ s. Instead (planned_in (judge_words net_word.now streams_word.now certificate_word.now)) s (H.faults shelf.old) (H.faults shelf.new) (H.tells shelf.old) (H.tells shelf.new)) }
-    ensures later { H.faults shelf.old ≤ H.faults shelf.new }
-{
-    match run_network(alloc, net_word, shelf) {
-        Ok(net) => match certified_named(alloc, streams_word, certificate_word, &net, shelf) {
-            Ok(certified) => Ok(Planned { net, certified }),
-            Err(status) => Err(status),
-        },
-        Err(status) => Err(status),
-    }
-}
-
 /// All that is run.
 #[derive(Drop)]
 struct Input {
-    planned: Planned,
+    judged: Judged,
     script: Script,
 }
 
@@ -208,21 +149,21 @@ fn scripted_named<H: Shelf>(
     script_word: &str,
     shelf: &mut H,
 ) -> Result<Input, Status>
-    ensures can { IfOk result (λ x. CanRun x.planned.net x.planned.certified.streams x.script) }
-    ensures good { IfOk result (λ x. GoodCertificate x.planned.net x.planned.certified.streams x.planned.certified.certificate) }
-    ensures scripted { IfOk result (λ x. WhereTold (H.tells shelf.old) (H.tells shelf.new) (OfFiles ((scripted_in (replay_words net_word.now streams_word.now certificate_word.now script_word.now)).gives ((x.planned.net, (x.planned.certified.streams, x.planned.certified.certificate)), x.script)))) }
+    ensures can { IfOk result (λ x. AllFit x.judged.net x.judged.certified.streams x.script) }
+    ensures good { IfOk result (λ x. GoodCertificate x.judged.net x.judged.certified.streams x.judged.certified.certificate) }
+    ensures scripted { IfOk result (λ x. WhereTold (H.tells shelf.old) (H.tells shelf.new) (OfFiles ((scripted_in (replay_words net_word.now streams_word.now certificate_word.now script_word.now)).gives ((x.judged.net, (x.judged.certified.streams, x.judged.certified.certificate)), x.script)))) }
     ensures cause { IfErr result (λ s. Instead (scripted_in (replay_words net_word.now streams_word.now certificate_word.now script_word.now)) s (H.faults shelf.old) (H.faults shelf.new) (H.tells shelf.old) (H.tells shelf.new)) }
     ensures later { H.faults shelf.old ≤ H.faults shelf.new }
 {
-    match planned_named(alloc, net_word, streams_word, certificate_word, shelf) {
-        Ok(planned) => match script_in(
+    match judged_named(alloc, net_word, streams_word, certificate_word, shelf) {
+        Ok(judged) => match script_in(
             alloc,
             script_word,
-            &planned.net,
-            &planned.certified.streams,
+            &judged.net,
+            &judged.certified.streams,
             shelf,
         ) {
-            Ok(script) => Ok(Input { planned, script }),
+            Ok(script) => Ok(Input { judged, script }),
             Err(status) => Err(status),
         },
         Err(status) => Err(status),
@@ -238,10 +179,10 @@ fn input_named<H: Shelf>(
     script_word: &str,
     shelf: &mut H,
 ) -> Result<Input, Status>
-    ensures can { IfOk result (λ x. CanRun x.planned.net x.planned.certified.streams x.script) }
-    ensures good { IfOk result (λ x. GoodCertificate x.planned.net x.planned.certified.streams x.planned.certified.certificate) }
-    ensures curves { IfOk result (λ x. CurvesHold x.planned.certified.streams.rows x.script.sends) }
-    ensures input { IfOk result (λ x. WhereTold (H.tells shelf.old) (H.tells shelf.new) (OfFiles ((replaying (replay_words net_word.now streams_word.now certificate_word.now script_word.now)).gives ((x.planned.net, (x.planned.certified.streams, x.planned.certified.certificate)), x.script)))) }
+    ensures can { IfOk result (λ x. AllFit x.judged.net x.judged.certified.streams x.script) }
+    ensures good { IfOk result (λ x. GoodCertificate x.judged.net x.judged.certified.streams x.judged.certified.certificate) }
+    ensures curves { IfOk result (λ x. CurvesHold x.judged.certified.streams.rows x.script.sends) }
+    ensures input { IfOk result (λ x. WhereTold (H.tells shelf.old) (H.tells shelf.new) (OfFiles ((replaying (replay_words net_word.now streams_word.now certificate_word.now script_word.now)).gives ((x.judged.net, (x.judged.certified.streams, x.judged.certified.certificate)), x.script)))) }
     ensures cause { IfErr result (λ s. Instead (replaying (replay_words net_word.now streams_word.now certificate_word.now script_word.now)) s (H.faults shelf.old) (H.faults shelf.new) (H.tells shelf.old) (H.tells shelf.new)) }
     ensures later { H.faults shelf.old ≤ H.faults shelf.new }
 {
@@ -254,7 +195,7 @@ fn input_named<H: Shelf>(
         shelf,
     ) {
         Ok(input) => {
-            let rows = input.planned.certified.streams.rows.as_slice();
+            let rows = input.judged.certified.streams.rows.as_slice();
             match unruly_line(alloc, rows, input.script.sends.as_slice()) {
                 Ok(None) => Ok(input),
                 Ok(Some(line)) => Err(Status::Unruly { line }),
@@ -287,7 +228,7 @@ pub(crate) fn replay_files<H: Shelf, S: Sink>(
     shelf: &mut H,
     sink: &mut S,
 ) -> Status
-    ensures cause { AnswerCause (replaying (replay_words net_word.now streams_word.now certificate_word.now script_word.now)) result (record { shelf_before = H.faults shelf.old; shelf_after = H.faults shelf.new; sink_before = S.faults sink.old; sink_after = S.faults sink.new; told_before = H.tells shelf.old; told_after = H.tells shelf.new; taken_before = S.tells sink.old; taken_after = S.tells sink.new }) }
+    ensures cause { ReplayingCause (replay_words net_word.now streams_word.now certificate_word.now script_word.now) result (record { shelf_before = H.faults shelf.old; shelf_after = H.faults shelf.new; sink_before = S.faults sink.old; sink_after = S.faults sink.new; told_before = H.tells shelf.old; told_after = H.tells shelf.new; taken_before = S.tells sink.old; taken_after = S.tells sink.new }) }
     ensures leaves { ReplayingLeaves (replay_words net_word.now streams_word.now certificate_word.now script_word.now) result (record { shelf_before = H.faults shelf.old; shelf_after = H.faults shelf.new; sink_before = S.faults sink.old; sink_after = S.faults sink.new; told_before = H.tells shelf.old; told_after = H.tells shelf.new; taken_before = S.tells sink.old; taken_after = S.tells sink.new }) }
     ensures shelf_later { H.faults shelf.old ≤ H.faults shelf.new }
     ensures sink_later { S.faults sink.old ≤ S.faults sink.new }
@@ -302,12 +243,12 @@ pub(crate) fn replay_files<H: Shelf, S: Sink>(
         shelf,
     ) {
         Ok(input) => {
-            let planned = &input.planned;
-            makes_a_run(&planned.net, &planned.certified.streams, &input.script);
+            let judged = &input.judged;
+            makes_a_run(&judged.net, &judged.certified.streams, &input.script);
             trace(
                 alloc,
-                &planned.net,
-                &planned.certified.streams,
+                &judged.net,
+                &judged.certified.streams,
                 &input.script,
                 sink,
             )

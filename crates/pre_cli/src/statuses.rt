@@ -4,8 +4,8 @@ ghost use Rattle.pre_base.specs.Told.{WhereTold};
 ghost use Rattle.pre_base.specs.Sinks.{TakesAll};
 ghost use Rattle.pre_cli.specs.Statuses.{number_of, file_word, behind_space, text_of, usage};
 
-use crate::refusals::{put_rejected, put_rules, put_unfit, put_unruly};
-use pre_base::{Failed, FileRow, Sink, write_all};
+use crate::refusals::{put_alias, put_rejected, put_rules, put_unfit, put_unruly};
+use pre_base::{ArcId, Failed, FileRow, Sink, write_all};
 use pre_certify::Unfit;
 use pre_text::put_number;
 
@@ -53,6 +53,11 @@ pub enum Status {
     Unruly {
         line: u64,
     },
+    /// The run stopped before this arrival, which would give what wasn't sent as it.
+    Alias {
+        arc: ArcId,
+        ordinal: u64,
+    },
     /// Want of memory.
     Memory,
 }
@@ -75,6 +80,7 @@ impl Status {
             Status::Unfit(_) => 6,
             Status::Rejected { .. } => 7,
             Status::Unruly { .. } => 8,
+            Status::Alias { .. } => 9,
         }
     }
 }
@@ -141,6 +147,7 @@ pub fn put_status<S: Sink>(status: &Status, sink: &mut S) -> Result<(), Failed>
         Status::Unfit(cause) => put_unfit(sink, cause),
         Status::Rejected { clause, row } => put_rejected(sink, *clause as u64, *row),
         Status::Unruly { line } => put_unruly(sink, *line),
+        Status::Alias { arc, ordinal } => put_alias(sink, arc.0 as u64, *ordinal),
         Status::Memory => write_all(sink, b"memory"),
     }
 }

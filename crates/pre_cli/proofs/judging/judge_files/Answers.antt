@@ -1,4 +1,4 @@
-use Rattle.std.proofs.Common.{inl}
+use Rattle.std.proofs.Common.{inl, inr}
 use Rattle.pre_topo.specs.declared.network.Network.{Network}
 use Rattle.pre_streams.specs.declared.rows.Streams.{Streams}
 use Rattle.pre_bound.specs.declared.certificate.Certificate.{Certificate}
@@ -11,7 +11,7 @@ use Rattle.pre_cli.proofs.judging.judge_files.Goals as goal
 pub returns-in-Ok-clause-cause : goal.returns-in-Ok-clause-cause
 returns-in-Ok-clause-cause g c =
     let x : Network × (Streams × Certificate) = (c.in-Ok._judged.net, (c.in-Ok._judged.certified.streams, c.in-Ok._judged.certified.certificate)) in
-    inl ((x, c.in-Ok.ensures.judged), c.put_accepted.ensures.cause.1)
+    inl (x, c.in-Ok.ensures.judged, c.put_accepted.ensures.cause.1)
 
 pub returns-in-Ok-clause-leaves : goal.returns-in-Ok-clause-leaves
 returns-in-Ok-clause-leaves g c =
@@ -28,3 +28,6 @@ returns-in-Ok-clause-leaves g c =
     } in
     put_leaves (judging (judge_words c.args.net_word.now c.args.streams_word.now c.args.certificate_word.now)) Accepts AcceptsFront c.put_accepted.result o accepted_text x
     (λ a b took. (c.in-Ok.ensures.good, took)) (λ a b took. took) c.in-Ok.ensures.judged c.put_accepted.ensures.ends
+
+pub returns-in-Err-clause-cause : goal.returns-in-Err-clause-cause
+returns-in-Err-clause-cause g c = inr c.in-Err.ensures.cause

@@ -9,7 +9,7 @@ pub returns-in-Ok-clause-cause : goal.returns-in-Ok-clause-cause
 returns-in-Ok-clause-cause g c =
     let words : ReplayWords = replay_words c.args.net_word.now c.args.streams_word.now c.args.certificate_word.now c.args.script_word.now in
     let input = c.in-Ok.input in
-    let x : Replay = ((input.planned.net, (input.planned.certified.streams, input.planned.certified.certificate)), input.script) in
+    let x : Replay = ((input.judged.net, (input.judged.certified.streams, input.judged.certified.certificate)), input.script) in
     let o : Outside = record {
       shelf_before = g.H.Shelf.faults c.args.shelf.now;
       shelf_after = g.H.Shelf.faults c.input_named.new.shelf;
@@ -26,7 +26,7 @@ pub returns-in-Ok-clause-leaves : goal.returns-in-Ok-clause-leaves
 returns-in-Ok-clause-leaves g c =
     let words : ReplayWords = replay_words c.args.net_word.now c.args.streams_word.now c.args.certificate_word.now c.args.script_word.now in
     let input = c.in-Ok.input in
-    let x : Replay = ((input.planned.net, (input.planned.certified.streams, input.planned.certified.certificate)), input.script) in
+    let x : Replay = ((input.judged.net, (input.judged.certified.streams, input.judged.certified.certificate)), input.script) in
     let o : Outside = record {
       shelf_before = g.H.Shelf.faults c.args.shelf.now;
       shelf_after = g.H.Shelf.faults c.input_named.new.shelf;
