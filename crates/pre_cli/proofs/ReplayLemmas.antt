@@ -10,6 +10,7 @@ use Rattle.pre_script.specs.declared.scripts.Script.{Script}
 use Rattle.pre_script.specs.declared.scripts.ScriptFault.{ScriptFault}
 use Rattle.pre_script.specs.declared.scripts.ScriptFault.TheVariants.{Fault, Memory}
 use Rattle.pre_script.specs.Reading.{script_of, ReadsAs}
+use Rattle.pre_script.proofs.Rising.{lines_rise}
 use Rattle.pre_history.specs.History.{History}
 use Rattle.pre_history.specs.Legal.{Legal}
 use Rattle.pre_delay.specs.Runs.{IsRun}
@@ -19,7 +20,7 @@ use Rattle.pre_cli.specs.declared.statuses.Status.{Status}
 use Rattle.pre_cli.specs.declared.statuses.Status.TheVariants as status
 use Rattle.pre_cli.specs.Answers.{Outside}
 use Rattle.pre_cli.specs.Certifying.{OfFiles, IsFileIn, IsNoFile, InPlace}
-use Rattle.pre_cli.specs.Curves.{CurvesHold}
+use Rattle.pre_cli.specs.Curves.{CurvesHold, LinesRise}
 use Rattle.pre_cli.specs.Headline.{Headline}
 use Rattle.pre_cli.specs.Judging.{network_in, certified_in}
 use Rattle.pre_cli.specs.Negotiating.{first_negotiating_link}
@@ -51,6 +52,14 @@ script_refused (Fault line rule) word text net streams before now a b due is = b
 pub script_instead : (word : List ℕ) (net : Network) (streams : Streams) (s : Status) (before now : ℕ) (a b : Option Told) → InPlace s (IsNoFile word) (ScriptRefused word net streams) before now a b
     → Instead (script_in word net streams) s before now a b
 script_instead word net streams s before now a b = text_instead (script_in word net streams) (IsNoFile word) s before now a b (gone_file word) (λ p. p)
+
+-- its sends stand in the order of their lines
+pub script_rises : (net : Network) (streams : Streams) (text : List ℕ) (script : Script) → ReadsAs (Ok script) (script_of net streams text) → LinesRise script.sends
+script_rises net streams text script due = by (script_of net streams text) refl due
+  where
+    by : (r : Result Script (ℕ × ℕ)) → r ≡ script_of net streams text → ReadsAs (Ok script) r → LinesRise script.sends
+    by (Ok read) same is = subst (λ (s : Script). LinesRise s.sends) (sym is) (lines_rise net streams text read (sym same))
+    by (Err place) same is = absurd is
 
 -- ---- which answers may come
 

@@ -7,7 +7,7 @@ ghost use Rattle.pre_streams.specs.Fits as rows;
 ghost use Rattle.pre_sim.specs.Reach.{CanRun};
 ghost use Rattle.pre_sim.specs.Steps.{StepTells, StepCause};
 ghost use Rattle.pre_cli.specs.Certifying.{OfFiles, InPlace, IsNoFile};
-ghost use Rattle.pre_cli.specs.Curves.{CurvesHold};
+ghost use Rattle.pre_cli.specs.Curves.{CurvesHold, LinesRise};
 ghost use Rattle.pre_cli.specs.Negotiating.{first_negotiating_link};
 ghost use Rattle.pre_cli.specs.Readings.{Instead, AnswerCause};
 ghost use Rattle.pre_cli.specs.Replaying.{run_network_in, planned_in, scripted_in, replaying, IsScriptIn, ScriptRefused, ReplayingLeaves};
@@ -148,6 +148,7 @@ fn script_in<H: Shelf>(
     shelf: &mut H,
 ) -> Result<Script, Status>
     ensures fits { IfOk result (lines.Fits net.now streams.now) }
+    ensures rise { IfOk result (λ script. LinesRise script.sends) }
     ensures script { IfOk result (λ script. WhereTold (H.tells shelf.old) (H.tells shelf.new) (OfFiles (IsScriptIn name.now net.now streams.now script))) }
     ensures cause { IfErr result (λ s. InPlace s (IsNoFile name.now) (ScriptRefused name.now net.now streams.now) (H.faults shelf.old) (H.faults shelf.new) (H.tells shelf.old) (H.tells shelf.new)) }
     ensures later { H.faults shelf.old ≤ H.faults shelf.new }
@@ -210,6 +211,7 @@ fn scripted_named<H: Shelf>(
 ) -> Result<Input, Status>
     ensures can { IfOk result (λ x. CanRun x.planned.net x.planned.certified.streams x.script) }
     ensures good { IfOk result (λ x. GoodCertificate x.planned.net x.planned.certified.streams x.planned.certified.certificate) }
+    ensures rise { IfOk result (λ x. LinesRise x.script.sends) }
     ensures scripted { IfOk result (λ x. WhereTold (H.tells shelf.old) (H.tells shelf.new) (OfFiles ((scripted_in (replay_words net_word.now streams_word.now certificate_word.now script_word.now)).gives ((x.planned.net, (x.planned.certified.streams, x.planned.certified.certificate)), x.script)))) }
     ensures cause { IfErr result (λ s. Instead (scripted_in (replay_words net_word.now streams_word.now certificate_word.now script_word.now)) s (H.faults shelf.old) (H.faults shelf.new) (H.tells shelf.old) (H.tells shelf.new)) }
     ensures later { H.faults shelf.old ≤ H.faults shelf.new }
@@ -229,7 +231,7 @@ fn scripted_named<H: Shelf>(
     }
 }
 
-/// The same, where the sends of each stream keep to its curve, and else the first line at which they don't.
+/// The same, where the sends of each stream keep to its curve, and else the least line with which they don't.
 fn input_named<H: Shelf>(
     alloc: Global,
     net_word: &str,
