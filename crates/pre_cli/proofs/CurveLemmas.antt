@@ -1,11 +1,10 @@
 -- The least line with which the sends of a script break a curve.
-use Rattle.std.proofs.Common.{◌≡◌, inl, inr, ℕ, ◌+◌, ◌<◌, ◌≤◌, Bool, true, false, List, [], ◌∷◌, ◌++◌, length, map, take, get_or, Option, Some, None, refl, sym, ◌∙◌, ap, subst, arith, nat_lt, if◌then◌else◌, zero, suc, Result, Ok, Err}
+use Rattle.std.proofs.Common.{◌≡◌, inl, inr, ℕ, ◌+◌, ◌<◌, ◌≤◌, Bool, true, false, List, [], ◌∷◌, length, Option, Some, None, refl, sym, ◌∙◌, ap, subst, arith, nat_lt, if◌then◌else◌, zero, suc, Result, Ok, Err}
 use Rattle.std.proofs.lemmas.List.{length-map}
 use Rattle.std.specs.Prelude.{IfOk}
-use Rattle.std.specs.Prelude.{slice_get, filter, AllPairs}
+use Rattle.std.specs.Prelude.{slice_get, AllPairs}
 use Rattle.std.proofs.lemmas.Bool.{cases_lt, ltb-true, ltb-false}
 use Rattle.std.proofs.lemmas.List.Kept.{AllPairs-filter}
-use Rattle.pre_base.specs.declared.numbers.Send.{Send}
 use Rattle.pre_curve.specs.declared.curves.Curve.{Curve}
 use Rattle.pre_curve.specs.Windows.{offer_of, offers_of, InOrder, WindowObeys, WindowBreaks}
 use Rattle.pre_streams.specs.declared.rows.Row.{Row}

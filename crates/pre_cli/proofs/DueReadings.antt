@@ -1,6 +1,5 @@
 -- Files come to one outcome of a reading at most, which is answered.
-use Rattle.std.proofs.Common.{◌≡◌, ◌⊎◌, inl, inr, ℕ, List, Option, Some, None, refl, sym, ◌∙◌, ap, subst}
-use Rattle.std.proofs.lemmas.Option.{none-some}
+use Rattle.std.proofs.Common.{◌≡◌, ◌⊎◌, inl, inr, Some, refl, ap, subst}
 use Rattle.pre_base.specs.Faults.{Rose}
 use Rattle.pre_base.specs.Told.{WhereTold}
 use Rattle.pre_base.specs.Shelves.{Told, Files}
@@ -8,8 +7,8 @@ use Rattle.pre_cli.specs.declared.statuses.Status.{Status}
 use Rattle.pre_cli.specs.declared.statuses.Status.TheVariants as status
 use Rattle.pre_cli.specs.Answers.{Outside}
 use Rattle.pre_cli.specs.Certifying.{OfFiles, GoneFrom}
-use Rattle.pre_cli.specs.Due.{TellsFiles, GivesUp}
-use Rattle.pre_cli.specs.Readings.{Reading, then_read, tested, Instead, Gave, AnswerCause, Outcome, missing, refuses, reads, ComeTo, IsDue, OneOutcome, DueIsAnswered}
+use Rattle.pre_cli.specs.Due.{TellsFiles}
+use Rattle.pre_cli.specs.Readings.{Reading, then_read, tested, Outcome, missing, refuses, reads, ComeTo, IsDue, OneOutcome, DueIsAnswered}
 
 -- ---- readings that are decided by the files
 

@@ -1,5 +1,5 @@
 -- Files come to one script that is run at most, or to one answer in its place.
-use Rattle.std.proofs.Common.{◌≡◌, inl, inr, ℕ, List, None, Some, refl, sym, ◌∙◌, ap}
+use Rattle.std.proofs.Common.{◌≡◌, ℕ, List, None, sym, ◌∙◌, ap}
 use Rattle.std.proofs.lemmas.Option.{none-some}
 use Rattle.pre_topo.specs.declared.network.Network.{Network}
 use Rattle.pre_cli.specs.declared.statuses.Status.{Status}

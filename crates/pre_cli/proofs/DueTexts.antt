@@ -1,5 +1,5 @@
 -- A text is a network, streams, a certificate or a script, or it is refused with one answer.
-use Rattle.std.proofs.Common.{◌≡◌, inl, inr, ℕ, List, map, Option, Some, None, Ok, Err, refl, sym, ◌∙◌, ap, subst}
+use Rattle.std.proofs.Common.{◌≡◌, inl, inr, ℕ, List, map, ap, subst}
 use Rattle.std.proofs.Props.{props}
 use Rattle.std.specs.FinMap.{get}
 use Rattle.pre_base.specs.Shelves.{Files}

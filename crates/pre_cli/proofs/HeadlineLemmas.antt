@@ -1,5 +1,5 @@
 -- The headline, from a good certificate, a run and a legal history.
-use Rattle.std.proofs.Common.{◌≡◌, ℕ, ◌+◌, ◌*◌, ◌/◌, ◌%◌, ◌<◌, ◌≤◌, ◌++◌, Bool, true, List, length, map, refl, sym, ◌∙◌, ap, subst, arith, eq-eqb, Some}
+use Rattle.std.proofs.Common.{◌≡◌, ℕ, ◌+◌, ◌*◌, ◌/◌, ◌%◌, ◌<◌, ◌≤◌, ◌++◌, true, List, length, refl, sym, ◌∙◌, ap, subst, arith, eq-eqb, Some}
 use Rattle.std.specs.Prelude.{slice_get, ◌==◌, ◌&&◌, All, Any}
 use Rattle.std.proofs.lemmas.Bool.{eqb-true, and_parts, and_from}
 use Rattle.pre_base.specs.declared.numbers.StreamId.{StreamId}
@@ -16,7 +16,7 @@ use Rattle.pre_bound.specs.Values.{Values}
 use Rattle.pre_check.specs.Said.{bound_in, of_port}
 use Rattle.pre_check.proofs.Agreeing.{has_port_due, has_stream_due}
 use Rattle.pre_check.proofs.Lists.{looked}
-use Rattle.pre_history.specs.Scenario.{Scenario, FrameOf, IsExpressFrame, row, send}
+use Rattle.pre_history.specs.Scenario.{Scenario, IsExpressFrame, row}
 use Rattle.pre_history.specs.History.{Delivery, History}
 use Rattle.pre_history.specs.Queries.{Deliveries}
 use Rattle.pre_history.specs.Legal.{Legal, Spared}
@@ -24,7 +24,7 @@ use Rattle.pre_history.specs.Deliveries.{DeliversOnce}
 use Rattle.pre_history.specs.Written.{AreWritten}
 use Rattle.pre_history.proofs.Lists.{found_at}
 use Rattle.pre_laws.proofs.Fitting.{read_one}
-use Rattle.pre_delay.specs.Ports.{stream_of, waiting_octets}
+use Rattle.pre_delay.specs.Ports.{stream_of}
 use Rattle.pre_delay.specs.Runs.{IsRun}
 use Rattle.pre_delay.specs.Timely.{Timely}
 use Rattle.pre_delay.proofs.OnePort.{place_of}

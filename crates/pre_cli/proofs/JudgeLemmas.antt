@@ -1,5 +1,5 @@
 -- What the parts of the commands over a certificate answer.
-use Rattle.std.proofs.Common.{◌≡◌, inl, inr, ℕ, List, Option, Result, Ok, Err, refl, sym, subst}
+use Rattle.std.proofs.Common.{◌≡◌, inr, ℕ, List, Option, Result, Ok, Err, refl, sym, subst}
 use Rattle.pre_base.specs.Told.{WhereTold}
 use Rattle.pre_base.specs.Shelves.{Told}
 use Rattle.pre_topo.specs.declared.network.Network.{Network}
@@ -8,7 +8,7 @@ use Rattle.pre_bound.specs.declared.certificate.Certificate.{Certificate}
 use Rattle.pre_bound.specs.Listed.{GoodCertificate}
 use Rattle.pre_check.specs.declared.reading.CertificateFault.{CertificateFault}
 use Rattle.pre_check.specs.declared.reading.CertificateFault.TheVariants.{Fault, Memory}
-use Rattle.pre_check.specs.Seen.{Rows, rows_in}
+use Rattle.pre_check.specs.Seen.{Rows}
 use Rattle.pre_check.specs.Reading.{certificate_of, ReadsAs}
 use Rattle.pre_cli.specs.declared.statuses.FileWord.TheVariants as file
 use Rattle.pre_cli.specs.declared.statuses.Status.{Status}

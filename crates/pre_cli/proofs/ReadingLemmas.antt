@@ -1,5 +1,5 @@
 -- What becomes of a reading, as a part of others, and of what is written behind it.
-use Rattle.std.proofs.Common.{◌≡◌, ◌⊎◌, inl, inr, ℕ, ◌≤◌, List, [], ◌++◌, Option, None, Some, refl, sym, ◌∙◌, subst, arith}
+use Rattle.std.proofs.Common.{◌≡◌, inl, inr, ℕ, ◌≤◌, List, [], Option, None, Some, refl, sym, ◌∙◌, subst, arith}
 use Rattle.std.proofs.lemmas.List.{append-nil}
 use Rattle.std.specs.FinMap.{get}
 use Rattle.pre_base.specs.Faults.{Rose}
@@ -12,7 +12,7 @@ use Rattle.pre_cli.specs.declared.statuses.Status.TheVariants as status
 use Rattle.pre_cli.specs.Answers.{Outside}
 use Rattle.pre_cli.specs.Certifying.{OfFiles, GoneFrom, InPlace, TakesFlushed}
 use Rattle.pre_cli.specs.Listed.{IsFlushed}
-use Rattle.pre_cli.specs.Readings.{Reading, then_read, tested, IsTextAnswer, Instead, Gave, IsWritten, AnswerCause, AnswerLeaves}
+use Rattle.pre_cli.specs.Readings.{Reading, then_read, tested, IsTextAnswer, Instead, Gave, AnswerCause, AnswerLeaves}
 use Rattle.pre_cli.specs.Putting.{PutEnds, PutCause}
 use Rattle.pre_cli.proofs.CertifyLemmas.{of_more, of_both}
 

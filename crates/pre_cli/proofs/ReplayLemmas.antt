@@ -24,11 +24,11 @@ use Rattle.pre_cli.specs.Curves.{CurvesHold, LinesRise}
 use Rattle.pre_cli.specs.Headline.{Headline}
 use Rattle.pre_cli.specs.Judging.{network_in, certified_in}
 use Rattle.pre_cli.specs.Negotiating.{first_negotiating_link}
-use Rattle.pre_cli.specs.Readings.{Reading, Instead, Gave, AnswerCause}
+use Rattle.pre_cli.specs.Readings.{Instead, Gave, AnswerCause}
 use Rattle.pre_cli.specs.Replaying.{NegotiatesAt, run_network_in, script_status, ScriptRefused, script_in, Replay, scenario_in, certificate_in, planned_in, scripted_in, IsUnrulyAt, replaying, ReplayingLeaves}
 use Rattle.pre_cli.specs.Runs.{RunEnds, RunCause}
 use Rattle.pre_cli.specs.Words.{ReplayWords}
-use Rattle.pre_cli.specs.Written.{TakesTrace, TakesTextFront}
+use Rattle.pre_cli.specs.Written.{TakesTrace}
 use Rattle.pre_cli.proofs.CertifyLemmas.{of_more}
 use Rattle.pre_cli.proofs.HeadlineLemmas.{headline}
 use Rattle.pre_cli.proofs.JudgeLemmas.{certified_refusing}

@@ -1,5 +1,5 @@
 -- Whether the sends of a script keep to the curves of their streams, and the least line with which they don't.
-use Rattle.std.specs.Prelude.{◌≡◌, ℕ, ◌==◌, ◌<◌, ◌≤◌, nat_lt, List, filter, map, length, slice_get, Option, Some, None, if◌then◌else◌, AllPairs}
+use Rattle.std.specs.Prelude.{◌≡◌, ℕ, ◌==◌, ◌<◌, ◌≤◌, nat_lt, List, filter, map, slice_get, Option, Some, None, if◌then◌else◌, AllPairs}
 use Rattle.pre_base.specs.declared.numbers.Send.{Send}
 use Rattle.pre_curve.specs.declared.curves.Curve.{Curve}
 use Rattle.pre_curve.specs.Windows.{offers_of, Obeys, ObeysAt, BreaksAt}

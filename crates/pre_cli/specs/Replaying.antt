@@ -2,7 +2,6 @@
 use Rattle.std.specs.Prelude.{◌≡◌, ◌≢◌, ◌⊎◌, ℕ, List, Some, None, Ok, Err}
 use Rattle.std.specs.FinMap.{get}
 use Rattle.pre_base.specs.Shelves.{Files}
-use Rattle.pre_base.specs.Sinks.{Taken}
 use Rattle.pre_base.specs.declared.numbers.FileRow.TheVariants.{Link}
 use Rattle.pre_topo.specs.declared.network.Network.{Network}
 use Rattle.pre_streams.specs.declared.rows.Streams.{Streams}

@@ -1,4 +1,4 @@
-use Rattle.std.proofs.Common.{◌≡◌, ℕ, List, Option, Some, None, refl, subst, rules}
+use Rattle.std.proofs.Common.{◌≡◌, List, Some, None, refl, subst, rules}
 use Rattle.pre_streams.specs.declared.rows.Row.{Row}
 use Rattle.pre_script.specs.declared.scripts.SendLine.{SendLine}
 use Rattle.pre_cli.specs.declared.statuses.Status.TheVariants as status

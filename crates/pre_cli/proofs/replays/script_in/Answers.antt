@@ -1,4 +1,4 @@
-use Rattle.std.proofs.Common.{List, ℕ, Ok, Err, subst, sym}
+use Rattle.std.proofs.Common.{List, ℕ, Err, subst, sym}
 use Rattle.pre_script.specs.Reading.{script_of, ReadsAs}
 use Rattle.pre_cli.specs.declared.statuses.Status.{Status}
 use Rattle.pre_cli.specs.Certifying.{InPlace, IsNoFile}
