@@ -123,7 +123,8 @@ module _ (rows : List Row) (sends : List SendLine) where
 
 -- ---- the test of one row
 
-row_finds : (sends : List SendLine) (number : ℕ) (row : Row) (c : Curve) (found : Option ℕ) → LinesRise sends → row.curve ≡ Some c → LinesFind (lines_of sends number) c found → (rows : List Row) → slice_get rows number ≡ Some row
+row_finds : (sends : List SendLine) (number : ℕ) (row : Row) (c : Curve) (found : Option ℕ) → LinesRise sends → row.curve ≡ Some c → LinesFind (lines_of sends number) c found
+    → (rows : List Row) → slice_get rows number ≡ Some row
     → RowFinds rows sends number found
 row_finds sends number row c None rise is obey rows at = λ r d there was.
     let same : row ≡ r = some_same row r (sym at ∙ there) in
@@ -137,7 +138,8 @@ row_finds sends number row c (Some line) rise is first rows at = ((row, c, at, i
         let curve : d ≡ c = some_same d c (sym was ∙ ap (λ (x : Row). x.curve) same ∙ is) in
         first_least (lines_of sends number) c line other (AllPairs-filter (λ x y. x.line < y.line) _ sends rise) first (subst (λ (x : Curve). BreakAt (lines_of sends number) x other) curve b)
 
-pub row_found : {E : Type 0} (sends lines : List SendLine) (number : ℕ) (row : Row) (c : Curve) (r : Result (Option ℕ) E) → LinesRise sends → lines ≡ lines_of sends number → row.curve ≡ Some c → IfOk r (LinesFind lines c)
+pub row_found : {E : Type 0} (sends lines : List SendLine) (number : ℕ) (row : Row) (c : Curve) (r : Result (Option ℕ) E) → LinesRise sends → lines ≡ lines_of sends number → row.curve ≡ Some c
+    → IfOk r (LinesFind lines c)
     → IfOk r (λ found. (rows : List Row) → slice_get rows number ≡ Some row → RowFinds rows sends number found)
 row_found sends lines number row c (Ok found) rise same is finds = row_finds sends number row c found rise is (subst (λ (l : List SendLine). LinesFind l c found) same finds)
 row_found sends lines number row c (Err e) rise same is finds = tt

@@ -36,11 +36,13 @@ use Rattle.pre_cli.proofs.ReadingLemmas.{gone_file, text_instead, IsInstead, Ref
 
 -- ---- a script
 
-script_fault : (word text : List ℕ) (net : Network) (streams : Streams) (place : ℕ × ℕ) (s : Status) (a b : Option Told) → script_of net streams text ≡ Err place → s ≡ status.Form file.Script place.0 place.1
+script_fault : (word text : List ℕ) (net : Network) (streams : Streams) (place : ℕ × ℕ) (s : Status) (a b : Option Told) → script_of net streams text ≡ Err place
+    → s ≡ status.Form file.Script place.0 place.1
     → WhereTold a b (OfFiles (IsFileIn word text)) → WhereTold a b (OfFiles (ScriptRefused word net streams s))
 script_fault word text net streams place s a b read is = of_more a b (IsFileIn word text) (ScriptRefused word net streams s) (λ files p. inr (text, p, (place, read, is)))
 
-pub script_refused : (fault : ScriptFault) (word text : List ℕ) (net : Network) (streams : Streams) (before now : ℕ) (a b : Option Told) → ReadsAs (Err fault) (script_of net streams text) → WhereTold a b (OfFiles (IsFileIn word text))
+pub script_refused : (fault : ScriptFault) (word text : List ℕ) (net : Network) (streams : Streams) (before now : ℕ) (a b : Option Told) → ReadsAs (Err fault) (script_of net streams text)
+    → WhereTold a b (OfFiles (IsFileIn word text))
     → InPlace (script_status fault) (IsNoFile word) (ScriptRefused word net streams) before now a b
 script_refused Memory word text net streams before now a b due is = tt
 script_refused (Fault line rule) word text net streams before now a b due is = by (script_of net streams text) refl due

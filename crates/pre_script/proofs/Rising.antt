@@ -109,7 +109,8 @@ told_rise : (line : ℕ) (seen : Seen) (r : Result Said ℕ) (now : Seen) → Ri
 told_rise line seen (Ok s) now rises says e = let is : with_said seen s ≡ now = cc in subst (RiseTo (line + 1)) is (more_rise line seen s rises (says s refl))
 told_rise line seen (Err rule) now rises says e = absurd cc
 
-words_rise : (net : Network) (streams : Streams) (seen : Seen) (line : ℕ) (words : List (List ℕ)) (now : Seen) → RiseTo line seen → after_words net streams seen line words ≡ Ok now → RiseTo (line + 1) now
+words_rise : (net : Network) (streams : Streams) (seen : Seen) (line : ℕ) (words : List (List ℕ)) (now : Seen) → RiseTo line seen → after_words net streams seen line words ≡ Ok now
+    → RiseTo (line + 1) now
 words_rise net streams seen line [] now rises e = let is : seen ≡ now = cc in subst (RiseTo (line + 1)) is (later line seen rises)
 words_rise net streams seen line (first ∷ words) now rises e = commented (is_comment first) e
   where
@@ -125,7 +126,8 @@ then_rise : (r : Result Seen (ℕ × ℕ)) (next : Seen → Result Seen (ℕ × 
 then_rise (Ok s) next now e = (s, refl, e)
 then_rise (Err fault) next now e = absurd cc
 
-all_rise : (net : Network) (streams : Streams) (seen : Seen) (line : ℕ) (lines : List (List ℕ)) (now : Seen) → RiseTo line seen → after_lines net streams seen (enumerate_from line lines) ≡ Ok now → LinesRise now.sends
+all_rise : (net : Network) (streams : Streams) (seen : Seen) (line : ℕ) (lines : List (List ℕ)) (now : Seen) → RiseTo line seen
+    → after_lines net streams seen (enumerate_from line lines) ≡ Ok now → LinesRise now.sends
 all_rise net streams seen line [] now rises e = let is : seen ≡ now = cc in subst (λ (s : Seen). LinesRise s.sends) is rises.rise
 all_rise net streams seen line (x ∷ lines) now rises e =
     let w = then_rise (after_line net streams seen (line, x)) (λ s. after_lines net streams s (enumerate_from (line + 1) lines)) now e in

@@ -11,4 +11,5 @@ break_in-requires c =
 
 pub returns-in_ok-lines-in-Some : goal.returns-in_ok-lines-in-Some
 returns-in_ok-lines-in-Some c =
-    row_found c.args.sends.now c.as_slice.result.now c.args.number c.args.row.now c.in-Some.curve c.break_in.result c.requires.rise (c.as_slice.ensures.value ∙ c.in_ok-lines-in-Some.ensures) c.in-Some.is c.break_in.ensures
+    row_found c.args.sends.now c.as_slice.result.now c.args.number c.args.row.now c.in-Some.curve c.break_in.result c.requires.rise
+    (c.as_slice.ensures.value ∙ c.in_ok-lines-in-Some.ensures) c.in-Some.is c.break_in.ensures

@@ -28,4 +28,5 @@ returns-in-Err-clause-cause g c =
     let now = g.H.Shelf.faults c.network_named.new.shelf in
     let a = g.H.Shelf.tells c.args.shelf.now in
     let b = g.H.Shelf.tells c.network_named.new.shelf in
-    untested_instead (network_in word) (λ n. first_negotiating_link n.arcs ≡ None) NegotiatesAt c.in-Err.status before now a b (network_instead word c.in-Err.status before now a b c.in-Err.ensures.cause)
+    untested_instead (network_in word) (λ n. first_negotiating_link n.arcs ≡ None) NegotiatesAt c.in-Err.status before now a b
+    (network_instead word c.in-Err.status before now a b c.in-Err.ensures.cause)
