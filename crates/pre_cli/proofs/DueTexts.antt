@@ -1,5 +1,5 @@
 -- A text is a network, streams, a certificate or a script, or it is refused with one answer.
-use Rattle.std.proofs.Common.{◌≡◌, inl, inr, ℕ, List, map, Option, Some, None, Ok, Err, refl, sym, ◌∙◌, ap, subst}
+use Rattle.std.proofs.Common.{◌≡◌, inl, inr, ℕ, List, map, ap, subst}
 use Rattle.std.proofs.Props.{props}
 use Rattle.std.specs.FinMap.{get}
 use Rattle.pre_base.specs.Shelves.{Files}
@@ -52,14 +52,16 @@ module _ (word : List ℕ) (net : Network) where
   streams_refuse files s (inl long) = inl long
   streams_refuse files s (inr (x, p, rest)) = inr (x, p.is, p.short, rest)
 
-  streams_read : (files : Files) (streams : Streams) → AreStreamsIn word net streams files → Reads file.Streams (streams_of net) stream_status (text_named pair_streams word files) (map row_parts streams.rows)
+  streams_read : (files : Files) (streams : Streams) → AreStreamsIn word net streams files
+      → Reads file.Streams (streams_of net) stream_status (text_named pair_streams word files) (map row_parts streams.rows)
   streams_read files streams (x, p, well) = (x, p.is, p.short, well)
 
   pub streams_decided : Decided (streams_in word net)
   streams_decided = record {
     given_once = λ files streams other p q.
         one_streams streams other
-        (read_once file.Streams (streams_of net) stream_status (text_named pair_streams word files) (map row_parts streams.rows) (map row_parts other.rows) (streams_read files streams p) (streams_read files other q));
+        (read_once file.Streams (streams_of net) stream_status (text_named pair_streams word files) (map row_parts streams.rows) (map row_parts other.rows)
+        (streams_read files streams p) (streams_read files other q));
     refused_once = λ files s t p q. refused_once file.Streams (streams_of net) stream_status (text_named pair_streams word files) s t (streams_refuse files s p) (streams_refuse files t q);
     not_refused = λ files streams s p q.
         refused_not_read file.Streams (streams_of net) stream_status (text_named pair_streams word files) s (map row_parts streams.rows) (streams_refuse files s q) (streams_read files streams p);
@@ -96,9 +98,11 @@ module _ (word : List ℕ) (net : Network) (streams : Streams) where
   pub certificate_decided : Decided (certificate_in word net streams)
   certificate_decided = record {
     given_once = λ files c other p q.
-        one_certificate c other (read_once file.Cert (certificate_of net streams) (at_place file.Cert) (get files word) (rows_in c) (rows_in other) (certificate_reads files c p) (certificate_reads files other q));
+        one_certificate c other
+        (read_once file.Cert (certificate_of net streams) (at_place file.Cert) (get files word) (rows_in c) (rows_in other) (certificate_reads files c p) (certificate_reads files other q));
     refused_once = λ files s t p q. refused_once file.Cert (certificate_of net streams) (at_place file.Cert) (get files word) s t (certificate_refuses files s p) (certificate_refuses files t q);
-    not_refused = λ files c s p q. refused_not_read file.Cert (certificate_of net streams) (at_place file.Cert) (get files word) s (rows_in c) (certificate_refuses files s q) (certificate_reads files c p);
+    not_refused = λ files c s p q.
+        refused_not_read file.Cert (certificate_of net streams) (at_place file.Cert) (get files word) s (rows_in c) (certificate_refuses files s q) (certificate_reads files c p);
     not_gone = λ files c p none. read_there file.Cert (certificate_of net streams) (at_place file.Cert) (get files word) (rows_in c) (certificate_reads files c p) none;
     refused_there = λ files s p none. refused_there file.Cert (certificate_of net streams) (at_place file.Cert) (get files word) s (certificate_refuses files s p) none;
   }
@@ -115,7 +119,8 @@ module _ (word : List ℕ) (net : Network) (streams : Streams) where
 
   pub script_decided : Decided (script_in word net streams)
   script_decided = record {
-    given_once = λ files script other p q. read_once file.Script (script_of net streams) (at_place file.Script) (get files word) script other (script_reads files script p) (script_reads files other q);
+    given_once = λ files script other p q.
+        read_once file.Script (script_of net streams) (at_place file.Script) (get files word) script other (script_reads files script p) (script_reads files other q);
     refused_once = λ files s t p q. refused_once file.Script (script_of net streams) (at_place file.Script) (get files word) s t (script_refuses files s p) (script_refuses files t q);
     not_refused = λ files script s p q. refused_not_read file.Script (script_of net streams) (at_place file.Script) (get files word) s script (script_refuses files s q) (script_reads files script p);
     not_gone = λ files script p none. read_there file.Script (script_of net streams) (at_place file.Script) (get files word) script (script_reads files script p) none;

@@ -1,5 +1,5 @@
 -- The headline, from a good certificate, a run and a legal history.
-use Rattle.std.proofs.Common.{◌≡◌, ℕ, ◌+◌, ◌*◌, ◌/◌, ◌%◌, ◌<◌, ◌≤◌, ◌++◌, Bool, true, List, length, map, refl, sym, ◌∙◌, ap, subst, arith, eq-eqb, Some}
+use Rattle.std.proofs.Common.{◌≡◌, ℕ, ◌+◌, ◌*◌, ◌/◌, ◌%◌, ◌<◌, ◌≤◌, ◌++◌, true, List, length, refl, sym, ◌∙◌, ap, subst, arith, eq-eqb, Some}
 use Rattle.std.specs.Prelude.{slice_get, ◌==◌, ◌&&◌, All, Any}
 use Rattle.std.proofs.lemmas.Bool.{eqb-true, and_parts, and_from}
 use Rattle.pre_base.specs.declared.numbers.StreamId.{StreamId}
@@ -16,7 +16,7 @@ use Rattle.pre_bound.specs.Values.{Values}
 use Rattle.pre_check.specs.Said.{bound_in, of_port}
 use Rattle.pre_check.proofs.Agreeing.{has_port_due, has_stream_due}
 use Rattle.pre_check.proofs.Lists.{looked}
-use Rattle.pre_history.specs.Scenario.{Scenario, FrameOf, IsExpressFrame, row, send}
+use Rattle.pre_history.specs.Scenario.{Scenario, IsExpressFrame, row}
 use Rattle.pre_history.specs.History.{Delivery, History}
 use Rattle.pre_history.specs.Queries.{Deliveries}
 use Rattle.pre_history.specs.Legal.{Legal, Spared}
@@ -24,7 +24,7 @@ use Rattle.pre_history.specs.Deliveries.{DeliversOnce}
 use Rattle.pre_history.specs.Written.{AreWritten}
 use Rattle.pre_history.proofs.Lists.{found_at}
 use Rattle.pre_laws.proofs.Fitting.{read_one}
-use Rattle.pre_delay.specs.Ports.{stream_of, waiting_octets}
+use Rattle.pre_delay.specs.Ports.{stream_of}
 use Rattle.pre_delay.specs.Runs.{IsRun}
 use Rattle.pre_delay.specs.Timely.{Timely}
 use Rattle.pre_delay.proofs.OnePort.{place_of}
@@ -38,7 +38,8 @@ bound_said : (net : Network) (rows : List Row) (c : Certificate) (v : Values) �
 bound_said net rows c v says stream r is =
     let place = has_stream_due rows stream r is in
     subst (λ (l : List (StreamId × ℕ)). bound_in l stream ≡ v.bound stream) (sym says.bounds)
-    (looked (λ (row : StreamId × ℕ). row.0.0 == stream) (λ row. row.1) (bound_row v) (v.bound stream) (λ x h. ap v.bound (eqb-true x.0 stream h)) (streams_of rows) place.0 (stream, r) place.1 (eq-eqb stream stream refl))
+    (looked (λ (row : StreamId × ℕ). row.0.0 == stream) (λ row. row.1) (bound_row v) (v.bound stream) (λ x h. ap v.bound (eqb-true x.0 stream h))
+    (streams_of rows) place.0 (stream, r) place.1 (eq-eqb stream stream refl))
 
 size_said : (net : Network) (rows : List Row) (c : Certificate) (v : Values) → Says net rows c v → (arc prio : ℕ) → arc < length net.arcs → prio < 8 → has_port rows arc prio ≡ true
     → of_port (λ (row : PortRow). row.size) c.ports arc prio ≡ v.size arc prio
@@ -76,7 +77,8 @@ module _ (w : Scenario) (c : Certificate) (run : IsRun w) (good : GoodCertificat
         let soon = timely.delivery_within_bound i d at express in
         omega (arith, bound, soon)
 
-    arrives : (f : ℕ) → f < length w.script.sends → IsExpressFrame w f → Spared w h f → due_tick w c f ≤ w.script.until.0 → Any (λ (d : Delivery). (d.frame ≡ f) × (d.tick ≤ due_tick w c f)) (Deliveries h)
+    arrives : (f : ℕ) → f < length w.script.sends → IsExpressFrame w f → Spared w h f → due_tick w c f ≤ w.script.until.0
+        → Any (λ (d : Delivery). (d.frame ≡ f) × (d.tick ≤ due_tick w c f)) (Deliveries h)
     arrives f lt express spared due =
         let bound = bound_is f lt express in
         let there = timely.spared_frames_arrive f lt express spared (omega (arith, bound, due)) in

@@ -1,5 +1,5 @@
 -- What the parts of the commands over a certificate answer.
-use Rattle.std.proofs.Common.{◌≡◌, inl, inr, ℕ, List, Option, Result, Ok, Err, refl, sym, subst}
+use Rattle.std.proofs.Common.{◌≡◌, inr, ℕ, List, Option, Result, Ok, Err, refl, sym, subst}
 use Rattle.pre_base.specs.Told.{WhereTold}
 use Rattle.pre_base.specs.Shelves.{Told}
 use Rattle.pre_topo.specs.declared.network.Network.{Network}
@@ -8,7 +8,7 @@ use Rattle.pre_bound.specs.declared.certificate.Certificate.{Certificate}
 use Rattle.pre_bound.specs.Listed.{GoodCertificate}
 use Rattle.pre_check.specs.declared.reading.CertificateFault.{CertificateFault}
 use Rattle.pre_check.specs.declared.reading.CertificateFault.TheVariants.{Fault, Memory}
-use Rattle.pre_check.specs.Seen.{Rows, rows_in}
+use Rattle.pre_check.specs.Seen.{Rows}
 use Rattle.pre_check.specs.Reading.{certificate_of, ReadsAs}
 use Rattle.pre_cli.specs.declared.statuses.FileWord.TheVariants as file
 use Rattle.pre_cli.specs.declared.statuses.Status.{Status}
@@ -22,23 +22,24 @@ use Rattle.pre_cli.proofs.ReadingLemmas.{gone_file, text_instead, IsInstead, Ref
 
 -- ---- a certificate's text
 
-pub certificate_read : (word text : List ℕ) (net : Network) (streams : Streams) (c : Certificate) (a b : Option Told) → ReadsAs (Ok c) (certificate_of net streams text) → WhereTold a b (OfFiles (IsFileIn word text))
+pub certificate_read : (word text : List ℕ) (net : Network) (streams : Streams) (c : Certificate) (a b : Option Told) → ReadsAs (Ok c) (certificate_of net streams text)
+    → WhereTold a b (OfFiles (IsFileIn word text))
     → WhereTold a b (OfFiles (IsCertificateIn word net streams c))
 certificate_read word text net streams c a b due is = by (certificate_of net streams text) refl due
   where
     by : (r : Result Rows (ℕ × ℕ)) → r ≡ certificate_of net streams text → ReadsAs (Ok c) r → WhereTold a b (OfFiles (IsCertificateIn word net streams c))
-    by (Ok rows) same due = of_more a b (IsFileIn word text) (IsCertificateIn word net streams c) (λ files p. (text, p, subst (λ (r : Rows). certificate_of net streams text ≡ Ok r) (sym due) (sym same))) is
+    by (Ok rows) same due =
+        of_more a b (IsFileIn word text) (IsCertificateIn word net streams c) (λ files p. (text, p, subst (λ (r : Rows). certificate_of net streams text ≡ Ok r) (sym due) (sym same))) is
     by (Err place) same due = absurd due
 
-pub certificate_refused : (fault : CertificateFault) (word text : List ℕ) (net : Network) (streams : Streams) (before now : ℕ) (a b : Option Told) → ReadsAs (Err fault) (certificate_of net streams text)
+pub certificate_refused : (fault : CertificateFault) (word text : List ℕ) (net : Network) (streams : Streams) (before now : ℕ) (a b : Option Told)
+    → ReadsAs (Err fault) (certificate_of net streams text)
     → WhereTold a b (OfFiles (IsFileIn word text)) → InPlace (certificate_status fault) (IsNoFile word) (CertificateRefused word net streams) before now a b
 certificate_refused Memory word text net streams before now a b due is = tt
 certificate_refused (Fault line rule) word text net streams before now a b due is = by (certificate_of net streams text) refl due
   where
-    s : Status
-    s = status.Form file.Cert line rule
-
-    by : (r : Result Rows (ℕ × ℕ)) → r ≡ certificate_of net streams text → ReadsAs (Err (Fault line rule)) r → WhereTold a b (OfFiles (CertificateRefused word net streams (status.Form file.Cert line rule)))
+    by : (r : Result Rows (ℕ × ℕ)) → r ≡ certificate_of net streams text → ReadsAs (Err (Fault line rule)) r
+        → WhereTold a b (OfFiles (CertificateRefused word net streams (status.Form file.Cert line rule)))
     by (Ok rows) same due = absurd due
     by (Err place) same due =
         let is_place : status.Form file.Cert line rule ≡ status.Form file.Cert place.0 place.1 = λ i. status.Form file.Cert (due.0 i) (due.1 i) in
@@ -46,13 +47,16 @@ certificate_refused (Fault line rule) word text net streams before now a b due i
 
 -- ---- readings of one text
 
-pub network_instead : (word : List ℕ) (s : Status) (before now : ℕ) (a b : Option Told) → InPlace s (IsGone pair_network word) (NetRefused word) before now a b → Instead (network_in word) s before now a b
+pub network_instead : (word : List ℕ) (s : Status) (before now : ℕ) (a b : Option Told) → InPlace s (IsGone pair_network word) (NetRefused word) before now a b
+    → Instead (network_in word) s before now a b
 network_instead word s before now a b = text_instead (network_in word) (IsGone pair_network word) s before now a b (λ t p. p) (λ p. p)
 
-pub streams_instead : (word : List ℕ) (net : Network) (s : Status) (before now : ℕ) (a b : Option Told) → InPlace s (IsGone pair_streams word) (StreamsRefused word net) before now a b → Instead (streams_in word net) s before now a b
+pub streams_instead : (word : List ℕ) (net : Network) (s : Status) (before now : ℕ) (a b : Option Told) → InPlace s (IsGone pair_streams word) (StreamsRefused word net) before now a b
+    → Instead (streams_in word net) s before now a b
 streams_instead word net s before now a b = text_instead (streams_in word net) (IsGone pair_streams word) s before now a b (λ t p. p) (λ p. p)
 
-pub certificate_instead : (word : List ℕ) (net : Network) (streams : Streams) (s : Status) (before now : ℕ) (a b : Option Told) → InPlace s (IsNoFile word) (CertificateRefused word net streams) before now a b
+pub certificate_instead : (word : List ℕ) (net : Network) (streams : Streams) (s : Status) (before now : ℕ) (a b : Option Told)
+    → InPlace s (IsNoFile word) (CertificateRefused word net streams) before now a b
     → Instead (certificate_in word net streams) s before now a b
 certificate_instead word net streams s before now a b = text_instead (certificate_in word net streams) (IsNoFile word) s before now a b (gone_file word) (λ p. p)
 

@@ -1,5 +1,5 @@
 -- What becomes of a reading, as a part of others, and of what is written behind it.
-use Rattle.std.proofs.Common.{◌≡◌, ◌⊎◌, inl, inr, ℕ, ◌≤◌, List, [], ◌++◌, Option, None, Some, refl, sym, ◌∙◌, subst, arith}
+use Rattle.std.proofs.Common.{◌≡◌, inl, inr, ℕ, ◌≤◌, List, [], Option, None, Some, refl, sym, ◌∙◌, subst, arith}
 use Rattle.std.proofs.lemmas.List.{append-nil}
 use Rattle.std.specs.FinMap.{get}
 use Rattle.pre_base.specs.Faults.{Rose}
@@ -69,7 +69,8 @@ module _ {X : Type 0} (A : Reading X) (Passes : X → Type 0) (Fails : X → Sta
 
 -- ---- one text
 
-pub text_instead : {X : Type 0} (R : Reading X) (gone : Option Told → Type 0) (s : Status) (before now : ℕ) (a b : Option Told) → ((t : Option Told) → gone t → GoneFrom R.gone t) → (IsTextAnswer s → R.may s)
+pub text_instead : {X : Type 0} (R : Reading X) (gone : Option Told → Type 0) (s : Status) (before now : ℕ) (a b : Option Told) → ((t : Option Told) → gone t → GoneFrom R.gone t)
+    → (IsTextAnswer s → R.may s)
     → InPlace s gone R.refused before now a b → Instead R s before now a b
 text_instead R gone status.ReadFault before now a b f may (inl lacks) = inl (refl, inl (f a lacks))
 text_instead R gone status.ReadFault before now a b f may (inr rose) = inl (refl, inr rose)
@@ -121,7 +122,8 @@ pub then_refusing : {X Y : Type 0} (A : Reading X) (B : X → Reading Y) → Ref
 then_refusing A B p q s (inl can) = p s can
 then_refusing A B p q s (inr (x, can)) = q x s can
 
-pub tested_refusing : {X : Type 0} (A : Reading X) (Passes : X → Type 0) (Fails : X → Status → Type 0) → Refusing A → ((x : X) (s : Status) → Fails x s → IsInstead s) → Refusing (tested A Passes Fails)
+pub tested_refusing : {X : Type 0} (A : Reading X) (Passes : X → Type 0) (Fails : X → Status → Type 0) → Refusing A → ((x : X) (s : Status) → Fails x s → IsInstead s)
+    → Refusing (tested A Passes Fails)
 tested_refusing A Passes Fails p q s (inl can) = p s can
 tested_refusing A Passes Fails p q s (inr (x, failed)) = q x s failed
 

@@ -10,6 +10,7 @@ use Rattle.pre_script.specs.declared.scripts.Script.{Script}
 use Rattle.pre_script.specs.declared.scripts.ScriptFault.{ScriptFault}
 use Rattle.pre_script.specs.declared.scripts.ScriptFault.TheVariants.{Fault, Memory}
 use Rattle.pre_script.specs.Reading.{script_of, ReadsAs}
+use Rattle.pre_script.proofs.Rising.{lines_rise}
 use Rattle.pre_history.specs.Scenario.{Scenario}
 use Rattle.pre_history.specs.History.{History}
 use Rattle.pre_history.specs.Legal.{Legal}
@@ -20,14 +21,14 @@ use Rattle.pre_cli.specs.declared.statuses.Status.{Status}
 use Rattle.pre_cli.specs.declared.statuses.Status.TheVariants as status
 use Rattle.pre_cli.specs.Answers.{Outside}
 use Rattle.pre_cli.specs.Certifying.{OfFiles, IsFileIn, IsNoFile, InPlace}
-use Rattle.pre_cli.specs.Curves.{CurvesHold}
+use Rattle.pre_cli.specs.Curves.{CurvesHold, LinesRise}
 use Rattle.pre_cli.specs.Headline.{Headline}
 use Rattle.pre_cli.specs.Judging.{judging}
 use Rattle.pre_cli.specs.Readings.{Reading, Instead, Gave}
 use Rattle.pre_cli.specs.Replaying.{script_status, ScriptRefused, script_in, Replay, scenario_in, certificate_in, scripted_in, IsUnrulyAt, replaying, ReplayingCause, ReplayingLeaves}
 use Rattle.pre_cli.specs.Runs.{RunEnds, RunCause}
 use Rattle.pre_cli.specs.Words.{ReplayWords}
-use Rattle.pre_cli.specs.Written.{TakesTrace, TakesTextFront}
+use Rattle.pre_cli.specs.Written.{TakesTrace}
 use Rattle.pre_cli.proofs.CertifyLemmas.{of_more}
 use Rattle.pre_cli.proofs.HeadlineLemmas.{headline}
 use Rattle.pre_cli.proofs.JudgeLemmas.{judging_refusing}
@@ -35,11 +36,13 @@ use Rattle.pre_cli.proofs.ReadingLemmas.{gone_file, text_instead, IsInstead, Ref
 
 -- ---- a script
 
-script_fault : (word text : List ℕ) (net : Network) (streams : Streams) (place : ℕ × ℕ) (s : Status) (a b : Option Told) → script_of net streams text ≡ Err place → s ≡ status.Form file.Script place.0 place.1
+script_fault : (word text : List ℕ) (net : Network) (streams : Streams) (place : ℕ × ℕ) (s : Status) (a b : Option Told) → script_of net streams text ≡ Err place
+    → s ≡ status.Form file.Script place.0 place.1
     → WhereTold a b (OfFiles (IsFileIn word text)) → WhereTold a b (OfFiles (ScriptRefused word net streams s))
 script_fault word text net streams place s a b read is = of_more a b (IsFileIn word text) (ScriptRefused word net streams s) (λ files p. inr (text, p, (place, read, is)))
 
-pub script_refused : (fault : ScriptFault) (word text : List ℕ) (net : Network) (streams : Streams) (before now : ℕ) (a b : Option Told) → ReadsAs (Err fault) (script_of net streams text) → WhereTold a b (OfFiles (IsFileIn word text))
+pub script_refused : (fault : ScriptFault) (word text : List ℕ) (net : Network) (streams : Streams) (before now : ℕ) (a b : Option Told) → ReadsAs (Err fault) (script_of net streams text)
+    → WhereTold a b (OfFiles (IsFileIn word text))
     → InPlace (script_status fault) (IsNoFile word) (ScriptRefused word net streams) before now a b
 script_refused Memory word text net streams before now a b due is = tt
 script_refused (Fault line rule) word text net streams before now a b due is = by (script_of net streams text) refl due
@@ -51,6 +54,14 @@ script_refused (Fault line rule) word text net streams before now a b due is = b
 pub script_instead : (word : List ℕ) (net : Network) (streams : Streams) (s : Status) (before now : ℕ) (a b : Option Told) → InPlace s (IsNoFile word) (ScriptRefused word net streams) before now a b
     → Instead (script_in word net streams) s before now a b
 script_instead word net streams s before now a b = text_instead (script_in word net streams) (IsNoFile word) s before now a b (gone_file word) (λ p. p)
+
+-- its sends stand in the order of their lines
+pub script_rises : (net : Network) (streams : Streams) (text : List ℕ) (script : Script) → ReadsAs (Ok script) (script_of net streams text) → LinesRise script.sends
+script_rises net streams text script due = by (script_of net streams text) refl due
+  where
+    by : (r : Result Script (ℕ × ℕ)) → r ≡ script_of net streams text → ReadsAs (Ok script) r → LinesRise script.sends
+    by (Ok read) same is = subst (λ (s : Script). LinesRise s.sends) (sym is) (lines_rise net streams text read (sym same))
+    by (Err place) same is = absurd is
 
 -- ---- which answers may come
 

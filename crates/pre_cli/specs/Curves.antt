@@ -1,5 +1,5 @@
--- Whether the sends of a script keep to the curves of their streams, and the first line at which they don't.
-use Rattle.std.specs.Prelude.{◌≡◌, ℕ, ◌==◌, ◌<◌, ◌≤◌, nat_lt, List, filter, map, length, slice_get, Option, Some, None, if◌then◌else◌}
+-- Whether the sends of a script keep to the curves of their streams, and the least line with which they don't.
+use Rattle.std.specs.Prelude.{◌≡◌, ℕ, ◌==◌, ◌<◌, ◌≤◌, nat_lt, List, filter, map, slice_get, Option, Some, None, if◌then◌else◌, AllPairs}
 use Rattle.pre_base.specs.declared.numbers.Send.{Send}
 use Rattle.pre_curve.specs.declared.curves.Curve.{Curve}
 use Rattle.pre_curve.specs.Windows.{offers_of, Obeys, ObeysAt, BreaksAt}
@@ -17,20 +17,19 @@ sends_in lines = map (λ s. s.send) lines
 abbrev pub LinesObey : List SendLine → Curve → Type 0
 LinesObey lines c = Obeys (offers_of (sends_in lines)) c
 
--- The send of this line is the first of them that closes a window in which they break it.
+-- The send of this line closes a window in which they break it.
 pub record BreakAt (lines : List SendLine) (c : Curve) (line : ℕ) : Type 0 where
   pub place : ℕ
   pub send : SendLine
   pub there : slice_get lines place ≡ Some send
   pub is_line : send.line ≡ line
   pub breaks : BreaksAt (offers_of (sends_in lines)) c place
-  pub first : (j : ℕ) → j < place → ObeysAt (offers_of (sends_in lines)) c j
 
 -- the sends of the row of this number obey its curve, where it has one
 abbrev pub RowObeys : List Row → List SendLine → ℕ → Type 0
 RowObeys rows sends i = (r : Row) (c : Curve) → slice_get rows i ≡ Some r → r.curve ≡ Some c → LinesObey (lines_of sends i) c
 
--- they break it, first at this line
+-- one of them closes a window in which they break it, and is of this line
 abbrev pub RowBreaks : List Row → List SendLine → ℕ → ℕ → Type 0
 RowBreaks rows sends i line = (r : Row) × (c : Curve) × (slice_get rows i ≡ Some r) × (r.curve ≡ Some c) × BreakAt (lines_of sends i) c line
 
@@ -38,7 +37,7 @@ RowBreaks rows sends i line = (r : Row) × (c : Curve) × (slice_get rows i ≡ 
 abbrev pub CurvesHold : List Row → List SendLine → Type 0
 CurvesHold rows sends = (i : ℕ) → RowObeys rows sends i
 
--- Those of a stream break its curve, first at this line; and no stream's do so first at a lesser one.
+-- The send of this line closes a window in which the sends of a stream break its curve, and no send of a lesser line does.
 pub record IsUnruly (rows : List Row) (sends : List SendLine) (line : ℕ) : Type 0 where
   pub stream : ℕ
   pub breaks : RowBreaks rows sends stream line
@@ -46,10 +45,23 @@ pub record IsUnruly (rows : List Row) (sends : List SendLine) (line : ℕ) : Typ
 
 -- ---- parts of that test
 
--- these sends obey the curve, or this is the line at which they break it first
+-- sends stand in the order of their lines
+abbrev pub LinesRise : List SendLine → Type 0
+LinesRise sends = AllPairs (λ a b. a.line < b.line) sends
+
+-- The send of this line is the first one that closes such a window.
+pub record FirstBreak (lines : List SendLine) (c : Curve) (line : ℕ) : Type 0 where
+  pub place : ℕ
+  pub send : SendLine
+  pub there : slice_get lines place ≡ Some send
+  pub is_line : send.line ≡ line
+  pub breaks : BreaksAt (offers_of (sends_in lines)) c place
+  pub first : (j : ℕ) → j < place → ObeysAt (offers_of (sends_in lines)) c j
+
+-- these sends obey the curve, or this is the line of the first one with which they break it
 abbrev pub LinesFind : List SendLine → Curve → Option ℕ → Type 0
 LinesFind lines c None = LinesObey lines c
-LinesFind lines c (Some line) = BreakAt lines c line
+LinesFind lines c (Some line) = FirstBreak lines c line
 
 -- the lesser of two lines, where there are two
 abbrev pub earlier : Option ℕ → Option ℕ → Option ℕ
@@ -57,10 +69,10 @@ earlier None found = found
 earlier (Some first) None = Some first
 earlier (Some first) (Some second) = Some (if nat_lt second first then second else first)
 
--- a row's curve holds, or this is the line at which its sends break it first
+-- a row's curve holds, or this is the least line with which its sends break it
 abbrev pub RowFinds : List Row → List SendLine → ℕ → Option ℕ → Type 0
 RowFinds rows sends i None = RowObeys rows sends i
-RowFinds rows sends i (Some line) = RowBreaks rows sends i line
+RowFinds rows sends i (Some line) = RowBreaks rows sends i line × ((other : ℕ) → RowBreaks rows sends i other → line ≤ other)
 
 -- the same of the rows before a place, with the least line
 abbrev pub RowsFind : List Row → List SendLine → ℕ → Option ℕ → Type 0

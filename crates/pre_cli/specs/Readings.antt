@@ -1,5 +1,5 @@
 -- What a command reads of the files that a shelf tells, in the order of its words, and what it answers and leaves.
-use Rattle.std.specs.Prelude.{◌≡◌, ◌≢◌, ◌⊎◌, ℕ, List, [], Option, true}
+use Rattle.std.specs.Prelude.{◌≡◌, ◌≢◌, ◌⊎◌, ℕ, Option}
 use Rattle.pre_base.specs.Faults.{Rose}
 use Rattle.pre_base.specs.Told.{WhereTold}
 use Rattle.pre_base.specs.Shelves.{Told, Files}

@@ -3,7 +3,7 @@ ghost use Rattle.pre_curve.specs.Windows.{InOrder, offers_of};
 ghost use Rattle.pre_streams.specs.declared.rows.Row.{Row};
 ghost use Rattle.pre_script.specs.Fits.{SendsInOrder};
 ghost use Rattle.pre_bound.specs.Settled.{PriosBelow};
-ghost use Rattle.pre_cli.specs.Curves.{lines_of, sends_in, LinesFind, RowFinds, Finds, earlier};
+ghost use Rattle.pre_cli.specs.Curves.{lines_of, sends_in, LinesRise, LinesFind, RowFinds, Finds, earlier};
 
 use pre_base::Send;
 use pre_curve::{Curve, first_breach};
@@ -46,14 +46,15 @@ fn break_in(alloc: Global, lines: &[SendLine], curve: &Curve) -> Result<Option<u
     }
 }
 
-/// The line at which the sends of a row break its curve first.
+/// The least line with which the sends of a row break its curve.
 fn row_break(
     alloc: Global,
     row: &Row,
     number: usize,
     sends: &[SendLine],
 ) -> Result<Option<u64>, AllocError>
-    requires { AllPairs SendsInOrder sends.now }
+    requires order { AllPairs SendsInOrder sends.now }
+    requires rise { LinesRise sends.now }
     ensures { IfOk result (λ found. (rows : List Row) → slice_get rows number ≡ Some row.now → RowFinds rows sends.now number found) }
 {
     match &row.curve {
@@ -75,13 +76,14 @@ fn earlier(least: Option<u64>, found: Option<u64>) -> Option<u64>
     }
 }
 
-/// The least line at which the sends of a stream break its curve first, and `None` where all keep to their curves.
+/// The least line with which the sends of a stream break its curve, and `None` where all keep to their curves.
 pub(crate) fn unruly_line(
     alloc: Global,
     rows: &[Row],
     sends: &[SendLine],
 ) -> Result<Option<u64>, AllocError>
-    requires { AllPairs SendsInOrder sends.now }
+    requires order { AllPairs SendsInOrder sends.now }
+    requires rise { LinesRise sends.now }
     ensures { IfOk result (Finds rows.now sends.now) }
 {
     let mut least = None;

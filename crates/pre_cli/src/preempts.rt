@@ -10,18 +10,21 @@ use crate::replays::replay_files;
 use pre_base::{Shelf, Sink};
 use std::alloc::Global;
 
-/// Does the command that the words say, over the shelf's files, and writes what it gives to the sink. So far
-/// `certify NET STREAMS` is known, which writes the least certificate of the streams over the network;
-/// `replay NET STREAMS SCRIPT`, which runs the script over these, and writes the trace; and `mpackets FILE`, which writes a
-/// line for each mPacket of the file, with what it gives to one receiver. In the place of NET or STREAMS the word `pair`
-/// stands for a built-in text.
+/// Does the command that the words say, over the shelf's files, and writes what it gives to the sink. `certify NET STREAMS`
+/// writes the least certificate of the streams over the network; `judge NET STREAMS CERT` writes `accepted` where the
+/// certificate is good for them, and `migrate NET STREAMS CERT` writes it anew; `replay NET STREAMS CERT SCRIPT` runs the
+/// script over these, where the certificate is good and the sends keep to their curves, and writes the trace; and
+/// `mpackets FILE` writes a line for each mPacket of the file, with what it gives to one receiver. In the place of NET or
+/// STREAMS the word `pair` stands for a built-in text.
 ///
 /// Each answer has its cause, and no two causes hold together; only want of memory is free. Files are read and tested one
 /// by one, in the order of the words, before anything is written. Where the answer is Done, the sink took the whole of the
-/// text and nothing else, flushed: of `replay` the text of a legal history of what the three texts say to run, in which
-/// each delivery is a frame that was sent, octet for octet, and none is delivered twice; of `mpackets` the listing, and of
-/// `certify` the text of a certificate that is good and least. Where writing failed, or memory ran out in a run, it took a
-/// front of such a text, and else nothing.
+/// text and nothing else, flushed. Of `replay` that is the text of a legal history of what the four texts say to run, of which
+/// the headline holds: under a good certificate express frames arrive within their printed bounds, queues stay within their
+/// printed sizes, each delivery is a frame that was sent, octet for octet, and none is delivered twice. Of `mpackets` it is
+/// the listing, of `certify` the text of a certificate that is good and least, and of `migrate` that of the one that was
+/// read. On Alias it took the text of the history before that arrival, flushed. Where writing failed, or memory ran out in a
+/// run, the sink took a front of such a text, and else nothing.
 pub fn preempt<H: Shelf, S: Sink>(
     alloc: Global,
     words: &[String],

@@ -7,7 +7,7 @@ ghost use Rattle.pre_streams.specs.Fits as rows;
 ghost use Rattle.pre_sim.specs.Reach.{AllFit};
 ghost use Rattle.pre_sim.specs.Steps.{StepTells, StepCause};
 ghost use Rattle.pre_cli.specs.Certifying.{OfFiles, InPlace, IsNoFile};
-ghost use Rattle.pre_cli.specs.Curves.{CurvesHold};
+ghost use Rattle.pre_cli.specs.Curves.{CurvesHold, LinesRise};
 ghost use Rattle.pre_cli.specs.Readings.{Instead};
 ghost use Rattle.pre_cli.specs.Replaying.{scripted_in, replaying, IsScriptIn, ScriptRefused, ReplayingCause, ReplayingLeaves};
 ghost use Rattle.pre_cli.specs.Replaying as replaying;
@@ -120,6 +120,7 @@ fn script_in<H: Shelf>(
     shelf: &mut H,
 ) -> Result<Script, Status>
     ensures fits { IfOk result (lines.Fits net.now streams.now) }
+    ensures rise { IfOk result (λ script. LinesRise script.sends) }
     ensures script { IfOk result (λ script. WhereTold (H.tells shelf.old) (H.tells shelf.new) (OfFiles (IsScriptIn name.now net.now streams.now script))) }
     ensures cause { IfErr result (λ s. InPlace s (IsNoFile name.now) (ScriptRefused name.now net.now streams.now) (H.faults shelf.old) (H.faults shelf.new) (H.tells shelf.old) (H.tells shelf.new)) }
     ensures later { H.faults shelf.old ≤ H.faults shelf.new }
@@ -151,6 +152,7 @@ fn scripted_named<H: Shelf>(
 ) -> Result<Input, Status>
     ensures can { IfOk result (λ x. AllFit x.judged.net x.judged.certified.streams x.script) }
     ensures good { IfOk result (λ x. GoodCertificate x.judged.net x.judged.certified.streams x.judged.certified.certificate) }
+    ensures rise { IfOk result (λ x. LinesRise x.script.sends) }
     ensures scripted { IfOk result (λ x. WhereTold (H.tells shelf.old) (H.tells shelf.new) (OfFiles ((scripted_in (replay_words net_word.now streams_word.now certificate_word.now script_word.now)).gives ((x.judged.net, (x.judged.certified.streams, x.judged.certified.certificate)), x.script)))) }
     ensures cause { IfErr result (λ s. Instead (scripted_in (replay_words net_word.now streams_word.now certificate_word.now script_word.now)) s (H.faults shelf.old) (H.faults shelf.new) (H.tells shelf.old) (H.tells shelf.new)) }
     ensures later { H.faults shelf.old ≤ H.faults shelf.new }
@@ -170,7 +172,7 @@ fn scripted_named<H: Shelf>(
     }
 }
 
-/// The same, where the sends of each stream keep to its curve, and else the first line at which they don't.
+/// The same, where the sends of each stream keep to its curve, and else the least line with which they don't.
 fn input_named<H: Shelf>(
     alloc: Global,
     net_word: &str,

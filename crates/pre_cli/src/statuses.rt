@@ -49,7 +49,7 @@ pub enum Status {
         clause: u8,
         row: u64,
     },
-    /// The sends of a stream break its curve: the line of the script at which they do so first.
+    /// The sends of a stream break its curve: the least line of the script with which one does so.
     Unruly {
         line: u64,
     },

@@ -8,3 +8,4 @@ pub mod Said
 pub mod Steps
 pub mod Ticks
 pub mod ReadBack
+pub mod Rising

@@ -3,7 +3,7 @@ use Rattle.pre_script.specs.Reading.{script_of, ReadsAs}
 use Rattle.pre_cli.specs.declared.statuses.Status.{Status}
 use Rattle.pre_cli.specs.Certifying.{InPlace, IsNoFile}
 use Rattle.pre_cli.specs.Replaying.{ScriptRefused}
-use Rattle.pre_cli.proofs.ReplayLemmas.{script_refused}
+use Rattle.pre_cli.proofs.ReplayLemmas.{script_refused, script_rises}
 use Rattle.pre_cli.proofs.replays.script_in.Goals as goal
 
 pub returns-in-Ok-clause-cause : goal.returns-in-Ok-clause-cause
@@ -19,3 +19,6 @@ returns-in-Ok-clause-cause g c =
     subst (λ (s : Status). InPlace s (IsNoFile word) (ScriptRefused word net streams) before now a b) (sym c.script_status.ensures)
     (script_refused fault word c.in-Ok.text.items net streams before now a b
     (subst (λ (l : List ℕ). ReadsAs (Err fault) (script_of net streams l)) c.as_slice.ensures.value c.in-Err-read_script.ensures.exact) c.in-Ok.ensures.text)
+
+pub returns-in-Ok-read_script-clause-rise : goal.returns-in-Ok-read_script-clause-rise
+returns-in-Ok-read_script-clause-rise g c = script_rises c.args.net.now c.args.streams.now c.as_slice.result.now c.in-Ok-read_script.script c.in-Ok-read_script.ensures.exact
