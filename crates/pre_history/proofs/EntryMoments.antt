@@ -9,8 +9,8 @@ use Rattle.pre_history.specs.Placed.{number, IsBefore, AllBefore}
 use Rattle.pre_history.proofs.Lists.{every_selected}
 
 module _ (arcs n a p : ℕ) where
-  came_before : (e : Entry) (b : Bool) (r : RingEntry) (same : Bool) → number arcs e.tick (1 + 3 * arcs) < n → (if same then Some (record { tick = e.tick; frame = e.frame; entered = b }) else None) ≡ Some r
-      → number arcs r.tick (1 + 3 * arcs) < n
+  came_before : (e : Entry) (b : Bool) (r : RingEntry) (same : Bool) → number arcs e.tick (1 + 3 * arcs) < n
+      → (if same then Some (record { tick = e.tick; frame = e.frame; entered = b }) else None) ≡ Some r → number arcs r.tick (1 + 3 * arcs) < n
   came_before e b r false lt is = absurd (cc is)
   came_before e b r true lt is =
       let made : RingEntry = record { tick = e.tick; frame = e.frame; entered = b } in

@@ -48,7 +48,8 @@ whole_arrives spelled w h a i f b e no_loss no_damage at ended ord places is_exp
     let whole : FrameOf w f ≡ user ++ Fcs user = (user_of w f).1 in
     let end_is : end_of h a b.ord ≡ Some e = first_numbered (Ends h a) 0 i b.ord (omega (arith, ord)) (λ j d here. let is : d.ord ≡ j = places j d here in omega (arith, is)) ∙ ended in
     let octets : slice_get (Air w h a) i ≡ Some (Some (head_of kind.Express ++ user ++ Fcs user))
-    = air_at w h a i b at ∙ ap Some (arrives_as_sent w h b e a no_loss no_damage end_is ∙ ap Some (whole_sent w h b e (record { 0 = f }) is_express from_start is_frame sized checked (omega (arith, low)))) in
+    = air_at w h a i b at
+    ∙ ap Some (arrives_as_sent w h b e a no_loss no_damage end_is ∙ ap Some (whole_sent w h b e (record { 0 = f }) is_express from_start is_frame sized checked (omega (arith, low)))) in
     let long : length (user ++ Fcs user) ≡ length user + 4 = omega (arith, length-append user (Fcs user), length-Fcs user) in
     let size : length (FrameOf w f) ≡ (send w f).send.size = length-FrameOf w f (omega (arith, low)) in
     let same = ap length whole in
@@ -96,7 +97,9 @@ module _ (w : Scenario) (h : History) (a i f : ℕ) (is : IsFrameAt w h a i f) w
       cc (none, ap test kind_is, passes)
 
   no_ass_error : ¬ IsAssError (Air w h a) i
-  no_ass_error x = elim x [ inl discards ↦ elim discards.1 [ inl start ↦ other_kind is_start refl start | inr more ↦ other_kind is_continue refl more.0 ] | inr start ↦ other_kind is_start refl start.0 ]
+  no_ass_error (inl (open', inl start)) = other_kind is_start refl start
+  no_ass_error (inl (open', inr (more, refused))) = other_kind is_continue refl more
+  no_ass_error (inr (start, refused)) = other_kind is_start refl start
 
   no_smd_error : ¬ IsSmdError (Air w h a) i
   no_smd_error x = elim x.1 [ inl none ↦ none (express_of w f, is.spells, refl) | inr more ↦ other_kind is_continue refl more.0 ]

@@ -1,21 +1,20 @@
-ghost use Rattle.std.specs.Prelude.{◌↔◌, ◌≡◌, ◌≢◌, ◌⊎◌, ℕ, ◌+◌, ◌*◌, ◌<◌, ◌++◌, [], length, ◌≤◌, slice_get, AllPairs, Some, List, Bool, false, true};
+ghost use Rattle.std.specs.Prelude.{◌↔◌, ◌≡◌, ◌≢◌, ◌⊎◌, ℕ, ◌+◌, ◌*◌, ◌<◌, ◌++◌, [], length, ◌≤◌, slice_get, Some, List, Bool, false, true};
 ghost use Rattle.std.specs.Bool.{Decides};
 ghost use Rattle.pre_base.specs.declared.numbers.FrameNo.{FrameNo};
 ghost use Rattle.pre_lldp.specs.Ages.{CountsEnabled, Heard};
 ghost use Rattle.pre_lldp.specs.LinkState.{is_verified, is_verify_wanted};
 ghost use Rattle.pre_lldp.specs.LldpLayout.{is_lldp_frame};
-ghost use Rattle.pre_mpacket.specs.Arrivals.{Given, Gives};
 ghost use Rattle.pre_mpacket.specs.Pieces.{CutRule, IsBoundary};
-ghost use Rattle.pre_history.specs.Octets.{Air, ToldActive};
+ghost use Rattle.pre_history.specs.Octets.{ToldActive};
 ghost use Rattle.pre_history.specs.Comings.{Comings, Coming, entry_for};
 ghost use Rattle.pre_history.specs.Examples.{SendsOneFrame, SendsTwoFrames, one_frame, two_frames, LosesOneFrame, lost_frame};
 ghost use Rattle.pre_history.specs.History.{Begin, Ended, History, Delivery, Entry, PlainEvent};
-ghost use Rattle.pre_history.specs.Legal.{Alias, CountLines, Legal, LegalUpTo, LegalBefore, FirstAliasAt, ArrivesAsAlias};
+ghost use Rattle.pre_history.specs.Legal.{Alias, Legal, LegalUpTo, LegalBefore, FirstAliasAt, ArrivesAsAlias};
 ghost use Rattle.pre_history.specs.LinkState.{Active, AreHeard, Good, RespondTicks, VerifiesBefore, VerifyWanted, Falls, LldpWanted, RespondOwed, Rises};
 ghost use Rattle.pre_history.specs.Moments.{Phase, moment_at};
 ghost use Rattle.pre_history.specs.Ordered.{HaveArrived, HaveChecks, HaveSizes, IsOrdered};
 ghost use Rattle.pre_history.specs.Placed.{AllBefore, AreLater, AllWithin, moment_of};
-ghost use Rattle.pre_history.specs.Queries.{Arrivals, Begins, Ends, Entries, Occupied, SettingOf, Waiting, Interrupted, Rest};
+ghost use Rattle.pre_history.specs.Queries.{Arrivals, Begins, Ends, Occupied, SettingOf, Waiting, Interrupted, Rest};
 ghost use Rattle.pre_history.specs.Rules.{Arriving, EndDue, Happens, HappensIn, OneOrNone};
 ghost use Rattle.pre_history.specs.Scenario.{FrameOf, Scenario, arc, send};
 ghost use Rattle.pre_history.specs.Starts.{ExpressWaits, begun, Choice, IsFront, Item, SizeOf, StartRule, There, whole_frame};
@@ -25,9 +24,7 @@ ghost use Rattle.pre_history.specs.Cuts.{IsCut, IsCutAt};
 ghost use Rattle.pre_history.specs.Stays.{SameGiven, SameResults, SameWholes};
 ghost use Rattle.pre_script.specs.declared.scripts.Setting.TheVariants as setting;
 ghost use Rattle.pre_topo.specs.declared.arcs.Mode.TheVariants as mode;
-ghost use Rattle.pre_history.specs.declared.events.What.TheVariants as what;
 ghost use Rattle.pre_mpacket.specs.declared.packets.Kind.TheVariants as kind;
-ghost use Rattle.pre_streams.specs.Fits as streams;
 
 /// A network, streams and script have at most one legal history, and at most one that is legal before a moment. Either they have
 /// a legal one, or else one that is legal before an arrival, due at a tick up to `until`, which is the first alias; never both.
