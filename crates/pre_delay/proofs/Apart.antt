@@ -24,7 +24,7 @@ use Rattle.pre_history.proofs.Relays.{IsSent, IsRelayed, ComesBy, relay_of, rela
 use Rattle.pre_history.proofs.Placing.{same_place, placed, moment_events, place_at, place_below, numbered}
 use Rattle.pre_history.proofs.Turns.{tick_lt}
 use Rattle.pre_history.proofs.InOrder.{steady}
-use Rattle.pre_history.proofs.Grounds.{entries_before}
+use Rattle.pre_history.proofs.EntryMoments.{entries_before}
 use Rattle.pre_delay.specs.Runs.{IsRun}
 use Rattle.pre_delay.proofs.Once.{HighBefore, one_begin, one_tick}
 use Rattle.pre_laws.proofs.Once.{coming_to}

@@ -25,7 +25,7 @@ use Rattle.pre_history.proofs.Placing.{placed, moment_events, place_at, place_be
 use Rattle.pre_history.proofs.Around.{begins_within}
 use Rattle.pre_history.proofs.Turns.{tick_le}
 use Rattle.pre_history.proofs.Steady.{costs}
-use Rattle.pre_history.proofs.Grounds.{entries_before}
+use Rattle.pre_history.proofs.EntryMoments.{entries_before}
 use Rattle.pre_bound.specs.Uses.{TakesAt, hop_of, is_stream, rate_of, burst_of}
 use Rattle.pre_bound.specs.Values.{Values}
 use Rattle.pre_bound.specs.Good.{AreGood}

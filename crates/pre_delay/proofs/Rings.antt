@@ -17,7 +17,7 @@ use Rattle.pre_history.proofs.Lists.{any_at, every_at, every_placed, every_weake
 use Rattle.pre_history.proofs.Pairs.{Pairs, pairs-append}
 use Rattle.pre_history.proofs.Placing.{moment_events, placed}
 use Rattle.pre_history.proofs.Turns.{tick_le}
-use Rattle.pre_history.proofs.Grounds.{entries_before}
+use Rattle.pre_history.proofs.EntryMoments.{entries_before}
 use Rattle.pre_history.proofs.EntriesRead.{entries_come}
 use Rattle.pre_history.proofs.Relays.{ComesBy, comings_by}
 use Rattle.pre_history.specs.Read.{IsTold}

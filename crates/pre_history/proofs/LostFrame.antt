@@ -6,24 +6,23 @@ use Rattle.pre_script.specs.declared.scripts.SendLine.{SendLine}
 use Rattle.pre_script.specs.declared.scripts.Loss.{Loss}
 use Rattle.pre_mpacket.specs.declared.packets.Kind.{Kind}
 use Rattle.pre_mpacket.specs.Spelling.{mpacket_of}
-use Rattle.pre_mpacket.specs.Arrivals.{Given, Gives, HasKind, HasCome, IsLost, is_continue}
+use Rattle.pre_mpacket.specs.Arrivals.{Given, Gives, HasKind, HasCome, IsLost, is_continue, is_fragment}
 use Rattle.pre_mpacket.specs.Counters.{HoldsOf, IsAssError, IsSmdError, IsAssOk, IsFragRx}
 use Rattle.pre_history.specs.declared.events.Outcome.TheVariants as outcome
 use Rattle.pre_history.specs.Scenario.{Scenario, arc}
 use Rattle.pre_history.specs.Moments.{Phase, moments}
-use Rattle.pre_history.specs.History.{PlainEvent, History, Begin, Ended, Counts}
+use Rattle.pre_history.specs.History.{PlainEvent, History, Begin, Ended}
 use Rattle.pre_history.specs.Queries.{Begins, Ends, Arrivals, Waiting, packet}
 use Rattle.pre_history.specs.Octets.{Air, names_loss, is_lost, Damaged, Sent}
 use Rattle.pre_history.specs.Rules.{EndDue, HappensIn}
-use Rattle.pre_history.specs.Legal.{LegalUpTo, Legal, Alias, CountsOf, CountLines, last_moment}
+use Rattle.pre_history.specs.Legal.{LegalUpTo, Legal, Alias, CountsOf, last_moment}
 use Rattle.pre_history.specs.Examples.{LosesOneFrame, first_begin, first_end, lost, lost_frame_body, lost_frame}
 use Rattle.pre_history.proofs.Arrived.{lost_gives_nothing}
 use Rattle.pre_history.proofs.Undamaged.{air_at}
-use Rattle.pre_history.proofs.Fronts.{IsRight}
+use Rattle.pre_history.proofs.WholeFrames.{NoFragments, no_counts, lines_none}
 use Rattle.pre_history.proofs.PairFacts.{two_arcs, no_delay, next, idle}
-use Rattle.pre_history.proofs.Quiet.{selected, gone, quiet_sets, quiet_expiries, quiet_ends, quiet_arrivals, quiet_entries, quiet_starts, quiet_phase}
-use Rattle.pre_history.proofs.OneFrame.{begun, from_one, ended, enters, begins, begun_right, begun_waits, begun_begins, first_not_due, first_tick, ends_now}
-use Rattle.std.proofs.lemmas.Bool.Decides.{nat_tests}
+use Rattle.pre_history.proofs.Quiet.{selected, other_arc, gone, quiet_sets, quiet_expiries, quiet_ends, quiet_arrivals, quiet_entries, quiet_starts, quiet_phase}
+use Rattle.pre_history.proofs.OneFrame.{begun, from_one, ended, begun_whole, begun_waits, begun_begins, first_not_due, first_tick, ends_now}
 
 module _ (w : Scenario) (l : LosesOneFrame w) where
   lost_in : (h : History) → slice_get (Begins h 0) 0 ≡ Some first_begin → IsLost (Air w h 0) 0
@@ -37,8 +36,8 @@ module _ (w : Scenario) (l : LosesOneFrame w) where
       let now : 72 + (arc w 0).delay ≡ 72 = omega (arith, no_delay w (from_one w l.script) 0) in
       (lost ∷ [], [], inl (now, (outcome.Lost, inl (lost_in (ended w l.script) refl, refl), refl)), refl, refl)
 
-  body_right : Every (IsRight w) (lost_frame_body w)
-  body_right = (enters w l.script, (begins w l.script, (tt, (tt, tt))))
+  body_whole : NoFragments (lost_frame_body w)
+  body_whole a = selected (λ (b : Begin). is_fragment b.kind ≡ false) first_begin (0 == a) refl
 
   body_waits : (t a p : ℕ) → 0 < t → Waiting (lost_frame_body w) a p t ≡ []
   unfolding Waiting
@@ -57,7 +56,7 @@ module _ (w : Scenario) (l : LosesOneFrame w) where
       let e = ended w l.script in
       let l720 : LegalUpTo w 720 begun
       = idle w s begun 1 72 (omega arith)
-      (λ r from to. quiet_phase w s begun r (omega (arith, from)) (begun_right w l.script) (λ a. inr (λ p. begun_waits w l.script r a p (omega (arith, from)))) (λ a. begun_begins w l.script r a (λ e. absurd (omega (arith, e, to)))) (λ a. tt)) (first_tick w l.script) in
+      (λ r from to. quiet_phase w s begun r (omega (arith, from)) (begun_whole w l.script) (λ a. inr (λ p. begun_waits w l.script r a p (omega (arith, from)))) (λ a. begun_begins w l.script r a (λ e. absurd (omega (arith, e, to)))) (λ a. tt)) (first_tick w l.script) in
       let l721 : LegalUpTo w 721 begun = next w s 720 begun [] 72 Phase.sets refl (quiet_sets w s begun 72) l720 in
       let l722 : LegalUpTo w 722 e = next w s 721 begun (PlainEvent.ended (first_end w) ∷ []) 72 (Phase.ends 0) refl (ends_now w l.script) l721 in
       let l723 : LegalUpTo w 723 e = next w s 722 e [] 72 (Phase.ends 1) refl (quiet_ends w s e 72 1 tt) l722 in
@@ -66,10 +65,10 @@ module _ (w : Scenario) (l : LosesOneFrame w) where
       let l726 : LegalUpTo w 726 h = next w s 725 h [] 72 (Phase.expiries 0) refl (quiet_expiries w s h 72 0) l725 in
       let l727 : LegalUpTo w 727 h = next w s 726 h [] 72 (Phase.expiries 1) refl (quiet_expiries w s h 72 1) l726 in
       let l728 : LegalUpTo w 728 h = next w s 727 h [] 72 Phase.entries refl (quiet_entries w s h 72 (omega arith)) l727 in
-      let l729 : LegalUpTo w 729 h = next w s 728 h [] 72 (Phase.starts 0) refl (quiet_starts w s h 72 0 body_right (inr (λ p. body_waits 72 0 p (omega arith)))) l728 in
-      let l730 : LegalUpTo w 730 h = next w s 729 h [] 72 (Phase.starts 1) refl (quiet_starts w s h 72 1 body_right (inr (λ p. body_waits 72 1 p (omega arith)))) l729 in
+      let l729 : LegalUpTo w 729 h = next w s 728 h [] 72 (Phase.starts 0) refl (quiet_starts w s h 72 0 body_whole (inr (λ p. body_waits 72 0 p (omega arith)))) l728 in
+      let l730 : LegalUpTo w 730 h = next w s 729 h [] 72 (Phase.starts 1) refl (quiet_starts w s h 72 1 body_whole (inr (λ p. body_waits 72 1 p (omega arith)))) l729 in
       idle w s h 73 5001 (omega arith)
-      (λ r from to. quiet_phase w s h r (omega (arith, from)) body_right (λ a. inr (λ p. body_waits r a p (omega (arith, from)))) (λ a. body_begins r a (λ e. absurd (omega (arith, e, from)))) (λ a. body_ends r a (λ e. absurd (omega (arith, e, from))))) l730
+      (λ r from to. quiet_phase w s h r (omega (arith, from)) body_whole (λ a. inr (λ p. body_waits r a p (omega (arith, from)))) (λ a. body_begins r a (λ e. absurd (omega (arith, e, from)))) (λ a. body_ends r a (λ e. absurd (omega (arith, e, from))))) l730
 
   -- ---- no alias and no counts
 
@@ -81,9 +80,6 @@ module _ (w : Scenario) (l : LosesOneFrame w) where
 
   not_come : HasCome (Air w (lost_frame_body w) 0) 0 → ⊥
   not_come (octets, at) = let same : Some octets ≡ None = cc (sym at ∙ lost_in (lost_frame_body w) refl) in cc same
-
-  other_arc : (a : ℕ) → (0 == suc a) ≡ false
-  other_arc a = grind (arith, nat_tests)
 
   no_arrivals : (a : ℕ) → Arrivals (lost_frame_body w) (suc a) ≡ []
   no_arrivals a = rw (other_arc a) refl
@@ -97,9 +93,6 @@ module _ (w : Scenario) (l : LosesOneFrame w) where
   no_alias zero zero lt (inr (inr (octets, gives, other))) = nothing_given (Given.frame octets) gives
   no_alias zero (suc i) lt alias = omega (arith, lt)
   no_alias (suc a) i lt alias = let none = ap length (no_arrivals a) in omega (arith, lt, none)
-
-  abbrev no_counts : Counts
-  no_counts = record { err = 0; smd = 0; ok = 0; rx = 0; tx = 0 }
 
   counts_none : (a : ℕ) → CountsOf w (lost_frame_body w) a no_counts
   counts_none zero = (
@@ -129,10 +122,6 @@ module _ (w : Scenario) (l : LosesOneFrame w) where
       none : (P : ℕ → Type 0) → HoldsOf P (length (Arrivals (lost_frame_body w) (suc a))) 0
       none P = subst (λ n. HoldsOf P n 0) (sym (ap length (no_arrivals a))) refl
 
-  lines_none : (a : ℕ) → CountLines w (lost_frame_body w) a []
-  lines_none zero = refl
-  lines_none (suc a) = ([], no_counts, lines_none a, counts_none a, refl)
-
   pub lost_frame_legal : Legal w (lost_frame w)
   lost_frame_legal =
       let sent : count_by (λ (x : SendLine). nat_le x.send.tick.0 w.script.until.0) w.script.sends ≡ 1
@@ -141,6 +130,6 @@ module _ (w : Scenario) (l : LosesOneFrame w) where
         lost_frame_body w,
         [],
         (subst (λ n. LegalUpTo w n (lost_frame_body w)) (sym at) body_legal, no_alias),
-        lines_none (length w.net.arcs),
+        lines_none w (lost_frame_body w) counts_none (length w.net.arcs),
         λ i. lost_frame_body w ++ PlainEvent.end (record { until = sym l.script.until i; sent = sym sent i; delivered = 0; dropped = 0 }) ∷ [],
       )

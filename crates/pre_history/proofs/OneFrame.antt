@@ -6,7 +6,7 @@ use Rattle.std.proofs.lemmas.Bool.Decides.{nat_tests}
 use Rattle.pre_crc.specs.Checks.{Mcrc}
 use Rattle.pre_topo.specs.declared.arcs.Arc.{Arc}
 use Rattle.pre_mpacket.specs.declared.packets.Kind.TheVariants as kind
-use Rattle.pre_mpacket.specs.Arrivals.{Given, Gives}
+use Rattle.pre_mpacket.specs.Arrivals.{Given, Gives, is_fragment}
 use Rattle.pre_history.specs.declared.events.Outcome.TheVariants as outcome
 use Rattle.pre_history.specs.Scenario.{Scenario, arc, capacity, no_arc, FrameOf}
 use Rattle.pre_lldp.specs.LldpLayout.{is_lldp_frame}
@@ -20,9 +20,9 @@ use Rattle.pre_history.specs.Rules.{EndDue, CheckOf, last_four, HappensIn, deliv
 use Rattle.pre_history.specs.Legal.{LegalUpTo}
 use Rattle.pre_history.specs.Examples.{first_send, SendsFirst, entered, first_begin, first_end, arrived, delivery, one_frame_body}
 use Rattle.pre_history.proofs.Spelled.{OneSpelled}
-use Rattle.pre_history.proofs.Undamaged.{user_frame, whole_arrives}
-use Rattle.pre_history.proofs.Fronts.{IsRight, EntersRight, BeginsRight, IsWholeBegin}
-use Rattle.pre_history.proofs.PairFacts.{express_four, SendsAtStart, cost_one, far_end, first_ab, on_ab, no_next, prio_six, direct, no_delay, next, idle}
+use Rattle.pre_history.proofs.Undamaged.{user_frame}
+use Rattle.pre_history.proofs.WholeFrames.{IsFrameAt, NoFragments, whole_arrives}
+use Rattle.pre_history.proofs.PairFacts.{express_four, SendsAtStart, cost_one, far_end, first_ab, no_next, prio_six, no_delay, next, idle}
 use Rattle.pre_history.proofs.PairFacts as facts
 use Rattle.pre_script.specs.declared.scripts.SendLine.{SendLine}
 use Rattle.pre_history.specs.Scenario.{send, no_send}
@@ -38,7 +38,6 @@ from_one w s = record {
   sets = s.sets;
   stream_x = λ f. ap (λ (xs : List SendLine). (slice_index_or xs f no_send).send.stream.0) s.sends ∙ stream f;
   size = λ f lt. ap (λ (xs : List SendLine). (slice_index_or xs f no_send).send.size) s.sends ∙ size f (subst (λ n. f < n) (ap length s.sends) lt);
-  tick = λ f. ap (λ (xs : List SendLine). (slice_index_or xs f no_send).send.tick.0) s.sends ∙ tick f;
   none_later = λ t lt. ap (sends_from w t 0) s.sends ∙ later t lt;
 }
   where
@@ -50,10 +49,6 @@ from_one w s = record {
     size zero lt = refl
     size (suc f) lt = absurd (omega (arith, lt))
 
-    tick : (f : ℕ) → (slice_index_or (first_send ∷ []) f no_send).send.tick.0 ≡ 0
-    tick zero = refl
-    tick (suc f) = refl
-
     later : (t : ℕ) → 0 < t → sends_from w t 0 (first_send ∷ []) ≡ []
     later t lt = let other : (0 == t) ≡ false = grind (arith, nat_tests) in rw other refl
 
@@ -64,9 +59,6 @@ module _ (w : Scenario) (s : SendsFirst w) where
   size_is : (send w 0).send.size ≡ 64
   size_is = ap (λ (xs : List SendLine). (slice_index_or xs 0 no_send).send.size) s.sends
 
-  tick_is : (send w 0).send.tick.0 ≡ 0
-  tick_is = ap (λ (xs : List SendLine). (slice_index_or xs 0 no_send).send.tick.0) s.sends
-
   frame_size : length (FrameOf w 0) ≡ 64
   frame_size = facts.frame_size w (from_one w s) 0 (omega (arith, one_send))
 
@@ -76,22 +68,13 @@ module _ (w : Scenario) (s : SendsFirst w) where
   abbrev pub ended : History
   ended = entered ∷ PlainEvent.begin first_begin ∷ PlainEvent.ended (first_end w) ∷ []
 
-  pub enters : EntersRight w (record { tick = 0; arc = 0; prio = 6; frame = 0 })
-  enters = record { arc = on_ab w (from_one w s) 0; prio = sym (prio_six w (from_one w s) 0); sent = omega (arith, tick_is); known = omega (arith, one_send) }
+  -- ---- it goes whole
 
-  pub begins : IsWholeBegin w first_begin
-  begins = record {
-    whole = refl;
-    right = λ f is.
-        let zero_is : 0 ≡ f.0 = cc is in
-        subst (BeginsRight w first_begin) zero_is (record { kind = refl; from = refl; arc = on_ab w (from_one w s) 0; sent = omega (arith, tick_is); known = omega (arith, one_send) });
-  }
+  pub begun_whole : NoFragments begun
+  begun_whole a = selected (λ (b : Begin). is_fragment b.kind ≡ false) first_begin (0 == a) refl
 
-  pub begun_right : Every (IsRight w) begun
-  begun_right = (enters, (begins, tt))
-
-  body_right : Every (IsRight w) (one_frame_body w)
-  body_right = (enters, (begins, (tt, (tt, (tt, tt)))))
+  pub body_whole : NoFragments (one_frame_body w)
+  body_whole a = selected (λ (b : Begin). is_fragment b.kind ≡ false) first_begin (0 == a) refl
 
   -- ---- nothing waits behind the start
 
@@ -160,7 +143,7 @@ module _ (w : Scenario) (s : SendsFirst w) where
       let l7 : LegalUpTo w 7 [] = next w (from_one w s) 6 [] [] 0 (Phase.expiries 1) refl (quiet_expiries w (from_one w s) [] 0 1) l6 in
       let l8 : LegalUpTo w 8 (entered ∷ []) = next w (from_one w s) 7 [] (entered ∷ []) 0 Phase.entries refl enters_now l7 in
       let l9 : LegalUpTo w 9 begun = next w (from_one w s) 8 (entered ∷ []) (PlainEvent.begin first_begin ∷ []) 0 (Phase.starts 0) refl starts_now l8 in
-      next w (from_one w s) 9 begun [] 0 (Phase.starts 1) refl (quiet_starts w (from_one w s) begun 0 1 begun_right (inr idle_start)) l9
+      next w (from_one w s) 9 begun [] 0 (Phase.starts 1) refl (quiet_starts w (from_one w s) begun 0 1 begun_whole (inr idle_start)) l9
 
   -- ---- tick 72
 
@@ -173,15 +156,20 @@ module _ (w : Scenario) (s : SendsFirst w) where
       = ap (λ (n : ℕ). if 0 + 64 == n then last_four (FrameOf w 0) else Mcrc (take (0 + 64 - 4) (FrameOf w 0))) (frame_size) in
       (PlainEvent.ended (first_end w) ∷ [], [], inl (PlainEvent.ended (first_end w), (64, size, due, ap (λ x. PlainEvent.ended (record { tick = 72; arc = 0; ord = 0; size = 64; check = x })) (sym check)), refl), refl, refl)
 
-  ends_are : (j : ℕ) (d : Ended) → slice_get (Ends ended 0) j ≡ Some d → d.ord ≡ j
-  ends_are zero d at = let same : first_end w ≡ d = cc at in ap (λ (x : Ended). x.ord) (sym same)
-  ends_are (suc j) d at = absurd (cc at)
+  pub one_place : (j : ℕ) (d : Ended) → slice_get (first_end w ∷ []) j ≡ Some d → d.ord ≡ j
+  one_place zero d at = let same : first_end w ≡ d = cc at in ap (λ (x : Ended). x.ord) (sym same)
+  one_place (suc j) d at = absurd (cc at)
 
   module _ (spelled : OneSpelled) (none_lost : w.script.losses ≡ []) where
-    gives_frame : Gives (Air w ended 0) 0 (Given.frame (FrameOf w 0))
-    gives_frame =
-        whole_arrives spelled w ended 0 0 first_begin (first_end w) (record { 0 = 0 }) none_lost s.damages refl refl refl ends_are refl refl refl (sym (frame_size))
-        (sym (ap (λ (n : ℕ). if 0 + 64 == n then last_four (FrameOf w 0) else Mcrc (take (0 + 64 - 4) (FrameOf w 0))) (frame_size))) (omega (arith, size_is)) (omega (arith, size_is))
+    -- and gives the frame once its mPacket has ended
+    pub gives_frame : (h : History) → slice_get (Begins h 0) 0 ≡ Some first_begin → slice_get (Ends h 0) 0 ≡ Some (first_end w)
+        → ((j : ℕ) (d : Ended) → slice_get (Ends h 0) j ≡ Some d → d.ord ≡ j) → IsFrameAt w h 0 0 0
+    gives_frame h begins ends places =
+        whole_arrives spelled w h 0 0 0 first_begin (first_end w) none_lost s.damages begins ends refl places refl refl refl (sym frame_size)
+        (sym (ap (λ (n : ℕ). if 0 + 64 == n then last_four (FrameOf w 0) else Mcrc (take (0 + 64 - 4) (FrameOf w 0))) frame_size)) (omega (arith, size_is)) (omega (arith, size_is))
+
+    gives_ended : Gives (Air w ended 0) 0 (Given.frame (FrameOf w 0))
+    gives_ended = let is = gives_frame ended refl refl one_place in is.gives
 
     arrives_now : HappensIn w ended 72 (Phase.arrivals 0) (arrived ∷ delivery w ∷ [])
     unfolding HappensIn
@@ -190,12 +178,12 @@ module _ (w : Scenario) (s : SendsFirst w) where
         let result : outcome.Frame ≡ (if is_lldp_frame (FrameOf w 0) then outcome.Lldp else outcome.Frame) = ap (λ (b : Bool). if b then outcome.Lldp else outcome.Frame) (sym (user_frame w 0)) in
         let events : arrived ∷ delivery w ∷ [] ≡ arrived ∷ delivered 72 (arc w 0).to.0 0 (FrameOf w 0) None = ap (λ n. arrived ∷ PlainEvent.deliver (record { tick = 72; node = n; frame = 0; octets = FrameOf w 0 }) ∷ []) (sym (far_end w (from_one w s))) in
         let here = ap (λ o. arrived ∷ delivered 72 (arc w 0).to.0 0 (FrameOf w 0) o) (sym (no_next w (from_one w s) 0 0)) in
-        (arrived ∷ delivery w ∷ [], [], inl (now, (outcome.Frame, inr (inl (Given.frame (FrameOf w 0), gives_frame, result)), (0, FrameOf w 0, refl, gives_frame, events ∙ here))), refl, refl)
+        (arrived ∷ delivery w ∷ [], [], inl (now, (outcome.Frame, inr (inl (Given.frame (FrameOf w 0), gives_ended, result)), (0, FrameOf w 0, refl, gives_ended, events ∙ here))), refl, refl)
 
     pub body_legal : LegalUpTo w 50010 (one_frame_body w)
     body_legal =
         let l720 : LegalUpTo w 720 begun
-        = idle w (from_one w s) begun 1 72 (omega arith) (λ r from to. quiet_phase w (from_one w s) begun r (omega (arith, from)) begun_right (λ a. inr (λ p. begun_waits r a p (omega (arith, from)))) (λ a. begun_begins r a (λ e. absurd (omega (arith, e, to)))) (λ a. tt)) first_tick in
+        = idle w (from_one w s) begun 1 72 (omega arith) (λ r from to. quiet_phase w (from_one w s) begun r (omega (arith, from)) begun_whole (λ a. inr (λ p. begun_waits r a p (omega (arith, from)))) (λ a. begun_begins r a (λ e. absurd (omega (arith, e, to)))) (λ a. tt)) first_tick in
         let l721 : LegalUpTo w 721 begun = next w (from_one w s) 720 begun [] 72 Phase.sets refl (quiet_sets w (from_one w s) begun 72) l720 in
         let l722 : LegalUpTo w 722 ended = next w (from_one w s) 721 begun (PlainEvent.ended (first_end w) ∷ []) 72 (Phase.ends 0) refl ends_now l721 in
         let l723 : LegalUpTo w 723 ended = next w (from_one w s) 722 ended [] 72 (Phase.ends 1) refl (quiet_ends w (from_one w s) ended 72 1 tt) l722 in
@@ -204,7 +192,7 @@ module _ (w : Scenario) (s : SendsFirst w) where
         let l726 : LegalUpTo w 726 (one_frame_body w) = next w (from_one w s) 725 (one_frame_body w) [] 72 (Phase.expiries 0) refl (quiet_expiries w (from_one w s) (one_frame_body w) 72 0) l725 in
         let l727 : LegalUpTo w 727 (one_frame_body w) = next w (from_one w s) 726 (one_frame_body w) [] 72 (Phase.expiries 1) refl (quiet_expiries w (from_one w s) (one_frame_body w) 72 1) l726 in
         let l728 : LegalUpTo w 728 (one_frame_body w) = next w (from_one w s) 727 (one_frame_body w) [] 72 Phase.entries refl (quiet_entries w (from_one w s) (one_frame_body w) 72 (omega arith)) l727 in
-        let l729 : LegalUpTo w 729 (one_frame_body w) = next w (from_one w s) 728 (one_frame_body w) [] 72 (Phase.starts 0) refl (quiet_starts w (from_one w s) (one_frame_body w) 72 0 body_right (inr (λ p. body_waits 72 0 p (omega arith)))) l728 in
-        let l730 : LegalUpTo w 730 (one_frame_body w) = next w (from_one w s) 729 (one_frame_body w) [] 72 (Phase.starts 1) refl (quiet_starts w (from_one w s) (one_frame_body w) 72 1 body_right (inr (λ p. body_waits 72 1 p (omega arith)))) l729 in
+        let l729 : LegalUpTo w 729 (one_frame_body w) = next w (from_one w s) 728 (one_frame_body w) [] 72 (Phase.starts 0) refl (quiet_starts w (from_one w s) (one_frame_body w) 72 0 body_whole (inr (λ p. body_waits 72 0 p (omega arith)))) l728 in
+        let l730 : LegalUpTo w 730 (one_frame_body w) = next w (from_one w s) 729 (one_frame_body w) [] 72 (Phase.starts 1) refl (quiet_starts w (from_one w s) (one_frame_body w) 72 1 body_whole (inr (λ p. body_waits 72 1 p (omega arith)))) l729 in
         idle w (from_one w s) (one_frame_body w) 73 5001 (omega arith)
-        (λ r from to. quiet_phase w (from_one w s) (one_frame_body w) r (omega (arith, from)) body_right (λ a. inr (λ p. body_waits r a p (omega (arith, from)))) (λ a. body_begins r a (λ e. absurd (omega (arith, e, from)))) (λ a. body_ends r a (λ e. absurd (omega (arith, e, from))))) l730
+        (λ r from to. quiet_phase w (from_one w s) (one_frame_body w) r (omega (arith, from)) body_whole (λ a. inr (λ p. body_waits r a p (omega (arith, from)))) (λ a. body_begins r a (λ e. absurd (omega (arith, e, from)))) (λ a. body_ends r a (λ e. absurd (omega (arith, e, from))))) l730

@@ -1,6 +1,6 @@
 -- What the built-in network and streams give to the rules, where the script sends frames of the stream x at tick 0.
 use Rattle.std.proofs.Common.{ℕ, zero, suc, ◌≡◌, ◌≢◌, ◌+◌, ◌*◌, ◌/◌, ◌%◌, ◌-◌, ◌<◌, ◌≤◌, List, [], ◌∷◌, ◌++◌, length, refl, sym, ◌∙◌, ap, arith, subst, Some, map, codes, ◌==◌, ◌&&◌, Bool, true, false, Option, None, filter_map}
-use Rattle.std.specs.Prelude.{slice_index_or, slice_get, unwrap_or, if◌then◌else◌, Contains, flat_map, option_map, option_and_then}
+use Rattle.std.specs.Prelude.{slice_index_or, slice_get, unwrap_or, if◌then◌else◌, flat_map, option_map, option_and_then}
 use Rattle.pre_topo.specs.declared.arcs.Arc.{Arc}
 use Rattle.pre_topo.specs.declared.arcs.Mode.TheVariants as mode
 use Rattle.pre_topo.specs.Pair.{pair_arcs}
@@ -15,7 +15,6 @@ use Rattle.pre_history.specs.Queries.{Arrivals}
 use Rattle.pre_history.proofs.Lists.{every_placed, none_selected}
 use Rattle.pre_history.specs.Rules.{HappensIn, Happens}
 use Rattle.pre_history.specs.Legal.{LegalUpTo}
-use Rattle.pre_history.specs.Deliveries.{IsDirect, IsPlain}
 use Rattle.pre_topo.specs.PairNetwork.{IsPair}
 use Rattle.pre_streams.specs.PairStreams as streams
 use Rattle.pre_history.proofs.Undamaged.{length-FrameOf}
@@ -27,7 +26,6 @@ pub record SendsAtStart (w : Scenario) : Type 0 where
   pub sets : w.script.sets ≡ []
   pub stream_x : (f : ℕ) → (send w f).send.stream.0 ≡ 0
   pub size : (f : ℕ) → f < length w.script.sends → (send w f).send.size ≡ 64
-  pub tick : (f : ℕ) → (send w f).send.tick.0 ≡ 0
   pub none_later : (t : ℕ) → 0 < t → sends_from w t 0 w.script.sends ≡ []
 
 module _ (w : Scenario) (s : SendsAtStart w) where
@@ -67,14 +65,11 @@ module _ (w : Scenario) (s : SendsAtStart w) where
   row_x : (f : ℕ) → row w f ≡ pair_row (codes "x") 10 6 (Some s.streams.0)
   row_x f = ap (λ n. slice_index_or w.streams.rows n no_row) (s.stream_x f) ∙ ap (λ (xs : List Row). slice_index_or xs 0 no_row) s.streams.2
 
-  pub hops_ab : (f : ℕ) → hops w f ≡ 0 ∷ []
+  hops_ab : (f : ℕ) → hops w f ≡ 0 ∷ []
   hops_ab f = ap (λ (r : Row). map (λ a. a.0) r.arcs) (row_x f)
 
   pub first_ab : (f : ℕ) → first_arc w f ≡ 0
   first_ab f = ap (λ (xs : List ℕ). unwrap_or (slice_get xs 0) 0) (hops_ab f)
-
-  pub on_ab : (f : ℕ) → Contains (hops w f) 0
-  on_ab f = subst (λ xs. Contains xs 0) (sym (hops_ab f)) (0, omega arith, refl)
 
   -- no frame goes on behind an arc, and so none is relayed
   pub no_next : (a f : ℕ) → next_arc w a f ≡ None
@@ -104,27 +99,6 @@ module _ (w : Scenario) (s : SendsAtStart w) where
 
   pub frame_size : (f : ℕ) → f < length w.script.sends → length (FrameOf w f) ≡ 64
   frame_size f lt = let size = s.size f lt in length-FrameOf w f (omega (arith, size)) ∙ size
-
-  pub direct : w.script.losses ≡ [] → w.script.damages ≡ [] → IsDirect w
-  direct losses damages = record {
-    routes = λ f lt. omega (arith, ap length (hops_ab f));
-    once = λ f lt i j d less within. absurd (omega (arith, less, within, ap length (hops_ab f)));
-    whole = λ f lt i d i_lt low. absurd (omega (arith, low, prio_six f, express_four (slice_index_or (hops w f) i d)));
-    losses = losses;
-    damages = damages;
-    sizes = λ f lt. let size = s.size f lt in (omega (arith, size), omega (arith, size));
-  }
-
-  pub plain : w.script.losses ≡ [] → w.script.damages ≡ [] → IsPlain w
-  plain losses damages = record {
-    direct = direct losses damages;
-    silent = λ a d lt is. go a d (subst (λ n. a < n) two_arcs lt) (sym (ap (λ (xs : List Arc). (slice_index_or xs a d).mode) s.net.arcs) ∙ is);
-  }
-    where
-      go : (a : ℕ) (d : Arc) → a < 2 → (slice_index_or pair_arcs a d).mode ≢ mode.Negotiate
-      go zero d lt e = cc e
-      go (suc zero) d lt e = cc e
-      go (suc (suc a)) d lt e = omega (arith, lt)
 
   -- one more moment
   pub next : (n : ℕ) (past es : History) (t : ℕ) (p : Phase) → moment_at 2 n ≡ record { tick = t; phase = p } → HappensIn w past t p es → LegalUpTo w n past → LegalUpTo w (suc n) (past ++ es)

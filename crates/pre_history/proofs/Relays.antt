@@ -1,20 +1,19 @@
 -- Why a frame comes to a ring: it was sent, or it arrived on the arc before and the latency is over.
-use Rattle.std.proofs.Common.{ℕ, zero, suc, ◌≡◌, ◌==◌, ◌&&◌, ◌+◌, ◌<◌, Bool, true, false, List, [], ◌∷◌, ◌++◌, length, refl, sym, ◌∙◌, ap, inl, inr, ◌⊎◌, arith, subst, Option, Some, None, filter_map}
+use Rattle.std.proofs.Common.{ℕ, zero, suc, ◌≡◌, ◌==◌, ◌&&◌, ◌+◌, ◌<◌, Bool, true, false, List, [], ◌∷◌, length, refl, sym, ◌∙◌, ap, inl, inr, ◌⊎◌, arith, subst, Option, Some, None, filter_map}
 use Rattle.std.specs.Prelude.{if◌then◌else◌, slice_get, slice_index_or, flat_map, option_map, option_and_then}
 use Rattle.std.specs.List.{AllByRecursion as Every}
 use Rattle.std.proofs.lemmas.Bool.{and_parts}
 use Rattle.std.proofs.lemmas.Bool.Decides.{nat_tests}
-use Rattle.std.proofs.lemmas.List.Elements.{filter_map-append}
 use Rattle.pre_script.specs.declared.scripts.SendLine.{SendLine}
 use Rattle.pre_history.specs.declared.events.What.{What}
 use Rattle.pre_history.specs.declared.events.What.TheVariants as what
 use Rattle.pre_history.specs.Scenario.{Scenario, send, no_send, latency}
 use Rattle.pre_history.specs.History.{History, Begin, Arrive}
-use Rattle.pre_history.specs.Selected.{begin_on, arrive_on, frame_in, is_frame_result}
+use Rattle.pre_history.specs.Selected.{frame_in, is_frame_result}
 use Rattle.pre_history.specs.Queries.{Begins, Arrivals}
 use Rattle.pre_history.specs.Comings.{Coming, Comings, next_arc, first_arc, sends_from, relayed, below, frame_at}
 use Rattle.pre_history.proofs.Pairs.{every_flat}
-use Rattle.pre_history.proofs.Lists.{within, at_front, every-append, every_weaker, every_placed, every_selected}
+use Rattle.pre_history.proofs.Lists.{within, every-append, every_weaker, every_placed, every_selected}
 
 -- ---- which frame an mPacket carries
 
@@ -52,23 +51,6 @@ pub record IsRelayed (w : Scenario) (past : History) (t a : ℕ) (c : Coming) : 
 -- a frame comes to a ring at the tick by one of these
 abbrev pub ComesBy : Scenario → History → ℕ → Coming → Type 0
 ComesBy w past t c = IsSent w t c ⊎ ((a : ℕ) × (a < length w.net.arcs) × IsRelayed w past t a c)
-
-pub comes_later : (w : Scenario) (past es : History) (t : ℕ) (c : Coming) → ComesBy w past t c → ComesBy w (past ++ es) t c
-comes_later w past es t c (inl sent) = inl sent
-comes_later w past es t c (inr (a, lt, r)) = inr (
-  a,
-  lt,
-  record {
-    place = r.place;
-    x = r.x;
-    b = r.b;
-    arrived = ap (λ xs. slice_get xs r.place) (filter_map-append (arrive_on a) past es) ∙ at_front (Arrivals past a) (Arrivals es a) r.place r.x r.arrived;
-    begun = ap (λ xs. slice_get xs r.x.ord) (filter_map-append (begin_on a) past es) ∙ at_front (Begins past a) (Begins es a) r.x.ord r.b r.begun;
-    carries = r.carries;
-    over = r.over;
-    next = r.next;
-  },
-)
 
 -- ---- each coming of a tick does so
 

@@ -8,7 +8,7 @@ use Rattle.pre_lldp.specs.LldpLayout.{is_lldp_frame}
 use Rattle.pre_topo.specs.declared.arcs.Arc.{Arc}
 use Rattle.pre_script.specs.declared.scripts.SendLine.{SendLine}
 use Rattle.pre_mpacket.specs.declared.packets.Kind.TheVariants as kind
-use Rattle.pre_mpacket.specs.Arrivals.{Given, Gives}
+use Rattle.pre_mpacket.specs.Arrivals.{Given, Gives, is_fragment}
 use Rattle.pre_history.specs.declared.events.Outcome.TheVariants as outcome
 use Rattle.pre_history.specs.Scenario.{Scenario, arc, row, capacity, no_arc, no_send, FrameOf}
 use Rattle.pre_history.specs.Moments.{Phase}
@@ -23,9 +23,9 @@ use Rattle.pre_history.specs.Received.{Result}
 use Rattle.pre_history.specs.Examples.{first_send, second_send, SendsTwoFrames, enters_ring, frame_begin, frame_end, frame_arrives, frame_delivery, two_frames_body}
 use Rattle.pre_history.proofs.Lists.{any_at, found_at}
 use Rattle.pre_history.proofs.Free.{packet_at}
-use Rattle.pre_history.proofs.Fronts.{IsRight, EntersRight, BeginsRight, IsWholeBegin}
+use Rattle.pre_history.proofs.WholeFrames.{NoFragments}
 use Rattle.pre_history.proofs.Undamaged.{user_frame}
-use Rattle.pre_history.proofs.PairFacts.{express_four, SendsAtStart, cost_one, far_end, first_ab, on_ab, no_next, prio_six, no_delay, frame_size}
+use Rattle.pre_history.proofs.PairFacts.{express_four, SendsAtStart, cost_one, far_end, first_ab, no_next, prio_six, no_delay, frame_size}
 use Rattle.pre_history.proofs.Quiet.{selected, comings_are, not_due}
 use Rattle.pre_history.proofs.NatTests.{cases_eq}
 
@@ -36,7 +36,6 @@ from_two w s = record {
   sets = s.sets;
   stream_x = λ f. ap (λ (xs : List SendLine). (slice_index_or xs f no_send).send.stream.0) s.sends ∙ stream f;
   size = λ f lt. ap (λ (xs : List SendLine). (slice_index_or xs f no_send).send.size) s.sends ∙ size f (subst (λ n. f < n) (ap length s.sends) lt);
-  tick = λ f. ap (λ (xs : List SendLine). (slice_index_or xs f no_send).send.tick.0) s.sends ∙ tick f;
   none_later = λ t lt. ap (sends_from w t 0) s.sends ∙ later t lt;
 }
   where
@@ -49,11 +48,6 @@ from_two w s = record {
     size zero lt = refl
     size (suc zero) lt = refl
     size (suc (suc f)) lt = absurd (omega (arith, lt))
-
-    tick : (f : ℕ) → (slice_index_or (first_send ∷ second_send ∷ []) f no_send).send.tick.0 ≡ 0
-    tick zero = refl
-    tick (suc zero) = refl
-    tick (suc (suc f)) = refl
 
     later : (t : ℕ) → 0 < t → sends_from w t 0 (first_send ∷ second_send ∷ []) ≡ []
     later t lt = let other : (0 == t) ≡ false = grind (arith, nat_tests) in rw other refl
@@ -117,29 +111,19 @@ module _ (w : Scenario) (s : SendsTwoFrames w) where
   pub size_of : (f : ℕ) → f < 2 → length (FrameOf w f) ≡ 64
   size_of f lt = frame_size w at f (known f lt)
 
-  enters : (f : ℕ) → f < 2 → EntersRight w (record { tick = 0; arc = 0; prio = 6; frame = f })
-  enters f lt = let tick = at.tick f in record { arc = on_ab w at f; prio = sym (prio_six w at f); sent = omega (arith, tick); known = known f lt }
+  -- ---- they go whole
 
-  begins : (t ord f : ℕ) → f < 2 → IsWholeBegin w (frame_begin t ord f)
-  begins t ord f lt = record {
-    whole = refl;
-    right = λ g is.
-        let tick = at.tick f in
-        let same : f ≡ g.0 = cc is in
-        subst (BeginsRight w (frame_begin t ord f)) same (record { kind = refl; from = refl; arc = on_ab w at f; sent = omega (arith, tick); known = known f lt });
-  }
+  pub begun_whole : NoFragments begun
+  begun_whole a = selected (λ (b : Begin). is_fragment b.kind ≡ false) (frame_begin 0 0 0) (0 == a) refl
 
-  pub begun_right : Every (IsRight w) begun
-  begun_right = (enters 0 (omega arith), (enters 1 (omega arith), (begins 0 0 0 (omega arith), tt)))
+  pub between_whole : NoFragments between
+  between_whole a = selected (λ (b : Begin). is_fragment b.kind ≡ false) (frame_begin 0 0 0) (0 == a) refl
 
-  pub between_right : Every (IsRight w) between
-  between_right = (enters 0 (omega arith), (enters 1 (omega arith), (begins 0 0 0 (omega arith), (tt, (tt, (tt, tt))))))
+  pub second_whole : NoFragments second
+  second_whole a = selected_two (λ (b : Begin). is_fragment b.kind ≡ false) (frame_begin 0 0 0) (frame_begin 84 1 1) (0 == a) refl refl
 
-  pub second_right : Every (IsRight w) second
-  second_right = (enters 0 (omega arith), (enters 1 (omega arith), (begins 0 0 0 (omega arith), (tt, (tt, (tt, (begins 84 1 1 (omega arith), tt)))))))
-
-  pub body_right : Every (IsRight w) (two_frames_body w)
-  body_right = (enters 0 (omega arith), (enters 1 (omega arith), (begins 0 0 0 (omega arith), (tt, (tt, (tt, (begins 84 1 1 (omega arith), (tt, (tt, (tt, tt))))))))))
+  pub body_whole : NoFragments (two_frames_body w)
+  body_whole a = selected_two (λ (b : Begin). is_fragment b.kind ≡ false) (frame_begin 0 0 0) (frame_begin 84 1 1) (0 == a) refl refl
 
   -- ---- what waits and what is occupied
 

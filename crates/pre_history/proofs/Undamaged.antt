@@ -1,8 +1,7 @@
--- A whole frame that isn't lost or damaged gives, where it arrives, the frame that was sent.
-use Rattle.std.proofs.Common.{ℕ, zero, suc, ◌≡◌, ◌==◌, ◌+◌, ◌-◌, ◌≤◌, Bool, true, false, List, [], ◌∷◌, ◌++◌, length, take, drop, refl, sym, ◌∙◌, ap, arith, subst, Some, None, map, filter, length-append}
+-- Frames of the script as octets, what is sent of one that goes whole, and what arrives where nothing is lost or damaged.
+use Rattle.std.proofs.Common.{ℕ, zero, suc, ◌≡◌, ◌==◌, ◌+◌, ◌-◌, ◌≤◌, Bool, true, false, List, [], ◌∷◌, ◌++◌, length, take, drop, refl, ◌∙◌, ap, arith, subst, Some, None, map, filter, length-append}
 use Rattle.std.specs.Prelude.{slice_get, if◌then◌else◌, option_map, fold}
 use Rattle.std.specs.List.{list_any}
-use Rattle.pre_base.specs.declared.limits.TheConstants.{GREATEST_FRAME}
 use Rattle.pre_base.specs.declared.numbers.FrameNo.{FrameNo}
 use Rattle.pre_crc.specs.Checks.{Fcs, Mcrc}
 use Rattle.pre_crc.specs.CheckFacts.{length-Fcs}
@@ -12,16 +11,14 @@ use Rattle.pre_frame.specs.FrameFacts.{length-frame_of}
 use Rattle.pre_script.specs.declared.scripts.Damage.{Damage}
 use Rattle.pre_mpacket.specs.declared.packets.Kind.TheVariants as kind
 use Rattle.pre_mpacket.specs.Spelling.{head_of}
-use Rattle.pre_mpacket.specs.Arrivals.{Given, Gives, Spelled}
 use Rattle.pre_history.specs.declared.events.What.TheVariants as what
 use Rattle.pre_history.specs.Scenario.{Scenario, row, send, source, destination, FrameOf}
 use Rattle.pre_history.specs.History.{History, Begin, Ended}
-use Rattle.pre_history.specs.Queries.{Begins, Ends, Packet, Packets, packet, end_of}
+use Rattle.pre_history.specs.Queries.{Begins, Packet, Packets, packet, end_of}
 use Rattle.pre_history.specs.Octets.{whole_of, WholeOf, SentOctets, Damaged, is_lost, names_loss, names_damage, xored, smd_place, Arrived, Air}
 use Rattle.pre_history.specs.Starts.{SizeOf}
 use Rattle.pre_history.specs.Rules.{CheckOf, last_four}
-use Rattle.pre_history.proofs.Free.{first_numbered, packet_at}
-use Rattle.pre_history.proofs.Spelled.{OneSpelled, express_spelled, express_gives}
+use Rattle.pre_history.proofs.Free.{packet_at}
 use Rattle.pre_history.proofs.NatTests.{is_eq}
 
 take-first : (xs ys : List ℕ) (n : ℕ) → n ≡ length xs → take n (xs ++ ys) ≡ xs
@@ -59,7 +56,7 @@ air_at w h a i b at = go (Packets h a) i (packet_at h a i b at)
     go (p ∷ ps) (suc i) at = go ps i at
 
 -- what isn't lost or damaged arrives as it was sent
-arrives_as_sent : (w : Scenario) (h : History) (b : Begin) (e : Ended) (a : ℕ) → w.script.losses ≡ [] → w.script.damages ≡ [] → end_of h a b.ord ≡ Some e
+pub arrives_as_sent : (w : Scenario) (h : History) (b : Begin) (e : Ended) (a : ℕ) → w.script.losses ≡ [] → w.script.damages ≡ [] → end_of h a b.ord ≡ Some e
     → Arrived w h (packet h a b) ≡ Some (SentOctets w h b e)
 arrives_as_sent w h b e a no_loss no_damage ended =
     let kept : is_lost w b ≡ false = ap (list_any (names_loss b)) no_loss in
@@ -85,35 +82,3 @@ whole_sent w h b e f is_express from_start is_frame sized checked low =
     ∙ (ap last_four whole ∙ drop-first user (Fcs user) (length (user ++ Fcs user) - 4) (omega (arith, long)))) in
     ap (λ k. head_of k ++ take (e.size - 4) (drop b.from (WholeOf w h b)) ++ e.check) is_express
     ∙ (ap (λ xs. head_of kind.Express ++ xs ++ e.check) sent_data ∙ ap (λ xs. head_of kind.Express ++ user ++ xs) check)
-
--- it gives that frame
-pub whole_arrives : OneSpelled → (w : Scenario) (h : History) (a i : ℕ) (b : Begin) (e : Ended) (f : FrameNo) → w.script.losses ≡ [] → w.script.damages ≡ []
-    → slice_get (Begins h a) i ≡ Some b → slice_get (Ends h a) i ≡ Some e → b.ord ≡ i → ((j : ℕ) (d : Ended) → slice_get (Ends h a) j ≡ Some d → d.ord ≡ j)
-    → b.kind ≡ kind.Express → b.from ≡ 0 → b.what ≡ what.Frame f → SizeOf w h b.kind b e.size → e.check ≡ CheckOf w h b e.size
-    → 64 ≤ (send w f.0).send.size → (send w f.0).send.size ≤ GREATEST_FRAME → Gives (Air w h a) i (Given.frame (FrameOf w f.0))
-whole_arrives spelled w h a i b e f no_loss no_damage at ended ord places is_express from_start is_frame sized checked low high =
-    let user = (user_of w f.0).0 in
-    let whole : FrameOf w f.0 ≡ user ++ Fcs user = (user_of w f.0).1 in
-    let end_is : end_of h a b.ord ≡ Some e = first_numbered (Ends h a) 0 i b.ord (omega (arith, ord)) (λ j d here. let is : d.ord ≡ j = places j d here in omega (arith, is)) ∙ ended in
-    let octets : slice_get (Air w h a) i ≡ Some (Some (head_of kind.Express ++ user ++ Fcs user))
-    = air_at w h a i b at ∙ ap Some (arrives_as_sent w h b e a no_loss no_damage end_is ∙ ap Some (whole_sent w h b e f is_express from_start is_frame sized checked (omega (arith, low)))) in
-    let long : length (user ++ Fcs user) ≡ length user + 4 = omega (arith, length-append user (Fcs user), length-Fcs user) in
-    let size : length (FrameOf w f.0) ≡ (send w f.0).send.size = length-FrameOf w f.0 (omega (arith, low)) in
-    let same = ap length whole in
-    subst (λ xs. Gives (Air w h a) i (Given.frame xs)) (sym whole) (express_gives spelled (Air w h a) i user octets (omega (arith, low, size, same, long)) (omega (arith, high, size, same, long)))
-
--- it spells an express mPacket
-pub whole_spelled : OneSpelled → (w : Scenario) (h : History) (a i : ℕ) (b : Begin) (e : Ended) (f : FrameNo) → w.script.losses ≡ [] → w.script.damages ≡ []
-    → slice_get (Begins h a) i ≡ Some b → slice_get (Ends h a) i ≡ Some e → b.ord ≡ i → ((j : ℕ) (d : Ended) → slice_get (Ends h a) j ≡ Some d → d.ord ≡ j)
-    → b.kind ≡ kind.Express → b.from ≡ 0 → b.what ≡ what.Frame f → SizeOf w h b.kind b e.size → e.check ≡ CheckOf w h b e.size
-    → 64 ≤ (send w f.0).send.size → Spelled (Air w h a) i ≡ Some (record { kind = kind.Express; mdata = (user_of w f.0).0; check = Fcs (user_of w f.0).0 })
-whole_spelled spelled w h a i b e f no_loss no_damage at ended ord places is_express from_start is_frame sized checked low =
-    let user = (user_of w f.0).0 in
-    let whole : FrameOf w f.0 ≡ user ++ Fcs user = (user_of w f.0).1 in
-    let end_is : end_of h a b.ord ≡ Some e = first_numbered (Ends h a) 0 i b.ord (omega (arith, ord)) (λ j d here. let is : d.ord ≡ j = places j d here in omega (arith, is)) ∙ ended in
-    let octets : slice_get (Air w h a) i ≡ Some (Some (head_of kind.Express ++ user ++ Fcs user))
-    = air_at w h a i b at ∙ ap Some (arrives_as_sent w h b e a no_loss no_damage end_is ∙ ap Some (whole_sent w h b e f is_express from_start is_frame sized checked (omega (arith, low)))) in
-    let long : length (user ++ Fcs user) ≡ length user + 4 = omega (arith, length-append user (Fcs user), length-Fcs user) in
-    let size : length (FrameOf w f.0) ≡ (send w f.0).send.size = length-FrameOf w f.0 (omega (arith, low)) in
-    let same = ap length whole in
-    express_spelled spelled (Air w h a) i user octets (omega (arith, low, size, same, long))

@@ -1,25 +1,10 @@
--- Runs in which each frame goes whole over each arc of its route and arrives as it was sent: what their deliveries say,
--- and that a frame comes to a ring of each arc once.
-use Rattle.std.specs.Prelude.{ℕ, ◌<◌, ◌≤◌, ◌≡◌, ◌≢◌, false, List, [], length, All, AllPairs, Contains}
-use Rattle.pre_base.specs.declared.limits.TheConstants.{LEAST_FRAME, GREATEST_FRAME}
-use Rattle.pre_topo.specs.declared.arcs.Mode.TheVariants as mode
-use Rattle.pre_history.specs.Scenario.{Scenario, arc, row, send, FrameOf}
+-- What deliveries say of the frames that were sent, and that frames come to rings of an arc once.
+use Rattle.std.specs.Prelude.{ℕ, ◌<◌, ◌≤◌, ◌≡◌, ◌≢◌, false, List, length, All, AllPairs, Contains}
+use Rattle.pre_history.specs.Scenario.{Scenario, send, FrameOf}
 use Rattle.pre_history.specs.History.{History}
 use Rattle.pre_history.specs.Selected.{what_is}
 use Rattle.pre_history.specs.Queries.{Begins, Entries, Deliveries}
 use Rattle.pre_history.specs.Comings.{Coming, hops}
-
-pub record IsDirect (w : Scenario) : Type 0 where
-  -- each frame has a route, which takes no arc twice
-  pub routes : (f : ℕ) → f < length w.script.sends → 1 ≤ length (hops w f)
-  pub once : (f : ℕ) → f < length w.script.sends → AllPairs (λ a b. a ≢ b) (hops w f)
-  -- an arc on which it is preemptable never preempts
-  pub whole : (f : ℕ) → f < length w.script.sends → All (λ a. (row w f).prio < (arc w a).express_from → (arc w a).mode ≡ mode.Off) (hops w f)
-  -- no mPacket is lost or damaged
-  pub losses : w.script.losses ≡ []
-  pub damages : w.script.damages ≡ []
-  -- frames have their size
-  pub sizes : (f : ℕ) → f < length w.script.sends → (LEAST_FRAME ≤ (send w f).send.size) × ((send w f).send.size ≤ GREATEST_FRAME)
 
 -- Each delivery has the octets of the frame that it names, which was sent by then, and no two deliveries name one frame.
 pub record DeliversOnce (w : Scenario) (h : History) : Type 0 where
@@ -37,9 +22,3 @@ pub record ComeOnce (w : Scenario) (past : History) (cs : List Coming) : Type 0 
   pub uncome : All (λ c. (p : ℕ) → All (λ e. e.frame ≢ c.frame) (Entries past c.arc p)) cs
   -- no two of them are one frame on one arc
   pub apart : AllPairs (λ c d. c.arc ≡ d.arc → c.frame ≢ d.frame) cs
-
--- A direct run in which only whole frames of the script are sent.
-pub record IsPlain (w : Scenario) : Type 0 where
-  pub direct : IsDirect w
-  -- no arc negotiates, so neither verifies, responds nor LLDP frames begin
-  pub silent : All (λ a. a.mode ≢ mode.Negotiate) w.net.arcs

@@ -1,22 +1,20 @@
-ghost use Rattle.std.specs.Prelude.{◌↔◌, ◌≡◌, ◌≢◌, ◌⊎◌, ℕ, ◌+◌, ◌*◌, ◌<◌, ◌++◌, [], length, ◌≤◌, slice_get, AllPairs, Some, List, Bool, false, true};
+ghost use Rattle.std.specs.Prelude.{◌↔◌, ◌≡◌, ◌≢◌, ◌⊎◌, ℕ, ◌+◌, ◌*◌, ◌<◌, ◌++◌, [], length, ◌≤◌, slice_get, Some, List, Bool, false, true};
 ghost use Rattle.std.specs.Bool.{Decides};
 ghost use Rattle.pre_base.specs.declared.numbers.FrameNo.{FrameNo};
 ghost use Rattle.pre_lldp.specs.Ages.{CountsEnabled, Heard};
 ghost use Rattle.pre_lldp.specs.LinkState.{is_verified, is_verify_wanted};
 ghost use Rattle.pre_lldp.specs.LldpLayout.{is_lldp_frame};
-ghost use Rattle.pre_mpacket.specs.Arrivals.{Given, Gives};
 ghost use Rattle.pre_mpacket.specs.Pieces.{CutRule, IsBoundary};
-ghost use Rattle.pre_history.specs.Octets.{Air, ToldActive};
-ghost use Rattle.pre_history.specs.Deliveries.{ComeOnce, DeliversOnce, IsDirect, IsPlain};
+ghost use Rattle.pre_history.specs.Octets.{ToldActive};
 ghost use Rattle.pre_history.specs.Comings.{Comings, Coming, entry_for};
 ghost use Rattle.pre_history.specs.Examples.{SendsOneFrame, SendsTwoFrames, one_frame, two_frames, LosesOneFrame, lost_frame};
 ghost use Rattle.pre_history.specs.History.{Begin, Ended, History, Delivery, Entry, PlainEvent};
-ghost use Rattle.pre_history.specs.Legal.{Alias, CountLines, Legal, LegalUpTo, LegalBefore, FirstAliasAt, ArrivesAsAlias};
+ghost use Rattle.pre_history.specs.Legal.{Alias, Legal, LegalUpTo, LegalBefore, FirstAliasAt, ArrivesAsAlias};
 ghost use Rattle.pre_history.specs.LinkState.{Active, AreHeard, Good, RespondTicks, VerifiesBefore, VerifyWanted, Falls, LldpWanted, RespondOwed, Rises};
 ghost use Rattle.pre_history.specs.Moments.{Phase, moment_at};
 ghost use Rattle.pre_history.specs.Ordered.{HaveArrived, HaveChecks, HaveSizes, IsOrdered};
 ghost use Rattle.pre_history.specs.Placed.{AllBefore, AreLater, AllWithin, moment_of};
-ghost use Rattle.pre_history.specs.Queries.{Arrivals, Begins, Ends, Entries, Occupied, SettingOf, Waiting, Interrupted, Rest};
+ghost use Rattle.pre_history.specs.Queries.{Arrivals, Begins, Ends, Occupied, SettingOf, Waiting, Interrupted, Rest};
 ghost use Rattle.pre_history.specs.Rules.{Arriving, EndDue, Happens, HappensIn, OneOrNone};
 ghost use Rattle.pre_history.specs.Scenario.{FrameOf, Scenario, arc, send};
 ghost use Rattle.pre_history.specs.Starts.{ExpressWaits, begun, Choice, IsFront, Item, SizeOf, StartRule, There, whole_frame};
@@ -26,9 +24,7 @@ ghost use Rattle.pre_history.specs.Cuts.{IsCut, IsCutAt};
 ghost use Rattle.pre_history.specs.Stays.{SameGiven, SameResults, SameWholes};
 ghost use Rattle.pre_script.specs.declared.scripts.Setting.TheVariants as setting;
 ghost use Rattle.pre_topo.specs.declared.arcs.Mode.TheVariants as mode;
-ghost use Rattle.pre_history.specs.declared.events.What.TheVariants as what;
 ghost use Rattle.pre_mpacket.specs.declared.packets.Kind.TheVariants as kind;
-ghost use Rattle.pre_streams.specs.Fits as streams;
 
 /// A network, streams and script have at most one legal history, and at most one that is legal before a moment. Either they have
 /// a legal one, or else one that is legal before an arrival, due at a tick up to `until`, which is the first alias; never both.
@@ -74,40 +70,10 @@ pub fn queries_stay()
     pre_mpacket::later_arrivals();
 }
 
-/// Where frames go whole over each arc of their routes and none is lost or damaged, each delivery of a legal history has the
-/// octets of the frame that it names, which was sent by then, and no two deliveries name one frame. A frame that has ended
-/// gives itself where it arrives.
-pub fn deliveries_are_what_was_sent()
-    ensures whole { (w : Scenario) → IsDirect w → (h : History) → Legal w h → DeliversOnce w h }
-    ensures so_far { (w : Scenario) → IsDirect w → (n : ℕ) (h : History) → LegalUpTo w n h → DeliversOnce w h }
-    ensures arrives { (w : Scenario) → IsDirect w → (n : ℕ) (h : History) (a i : ℕ) (b : Begin) (e : Ended) (f : FrameNo) → a < length w.net.arcs → LegalUpTo w n h
-        → slice_get (Begins h a) i ≡ Some b → slice_get (Ends h a) i ≡ Some e → b.what ≡ what.Frame f → Gives (Air w h a) i (Given.frame (FrameOf w f.0)) }
-{
-    pre_mpacket::one_mpacket();
-    pre_mpacket::one_given();
-}
-
-/// In a direct run a frame comes to a ring of each arc of its route once at most: no two entries of a ring, drops among them,
-/// are of one frame, and what comes to rings at a tick neither came to those arcs before nor began on them.
-pub fn frames_come_once()
-    ensures entries { (w : Scenario) → IsDirect w → (n : ℕ) (h : History) (a p : ℕ) → LegalUpTo w n h → AllPairs (λ d e. d.frame ≢ e.frame) (Entries h a p) }
-    ensures comings { (w : Scenario) → IsDirect w → (t : ℕ) (past : History) → LegalUpTo w (moment_of w t Phase.entries) past
-        → ComeOnce w past (Comings w past t) }
-{
-    pre_mpacket::one_mpacket();
-    pre_mpacket::one_given();
-}
-
-/// Where no arc of a direct run negotiates, each arrival gives the frame that was sent as that mPacket: none is an alias, and no
-/// counter of an arc rises. A frame of a script is never an LLDP frame.
-pub fn direct_arrivals()
-    ensures user { (w : Scenario) (f : FrameNo) → is_lldp_frame (FrameOf w f.0) ≡ false }
-    ensures no_alias { (w : Scenario) → IsPlain w → (n : ℕ) (h : History) → LegalUpTo w n h → (a i : ℕ) → i < length (Arrivals h a) → ¬ Alias w h a i }
-    ensures no_counts { (w : Scenario) → IsPlain w → (n : ℕ) (h : History) → LegalUpTo w n h → CountLines w h (length w.net.arcs) [] }
-{
-    pre_mpacket::one_mpacket();
-    pre_mpacket::one_given();
-}
+/// A frame of a script is never an LLDP frame.
+pub fn user_frames_are_no_lldp_frames()
+    ensures { (w : Scenario) (f : FrameNo) → is_lldp_frame (FrameOf w f.0) ≡ false }
+{}
 
 /// There are legal histories: those of the smallest scripts that send a frame, two frames back to back, and a frame that is lost,
 /// over the built-in network and streams.

@@ -7,11 +7,10 @@ mod written;
 
 pub use events::{Event, Outcome, What};
 pub use laws::{
-    active_is_told, arcs_are_links, arrivals_are_read, deliveries_are_what_was_sent,
-    direct_arrivals, ends_are_read, entries_are_read, events_before_their_end, expiries_are_read,
-    express_frames_begin, frames_come_once, histories_go_on, idle_moments, legal_histories_are_cut,
-    mpackets_in_order, octets_stay, one_history, queries_stay, small_histories_are_legal,
-    starts_are_decided, starts_are_read, starts_stay, tests_are_decided, turns_are_kept,
-    wants_stay,
+    active_is_told, arcs_are_links, arrivals_are_read, ends_are_read, entries_are_read,
+    events_before_their_end, expiries_are_read, express_frames_begin, histories_go_on,
+    idle_moments, legal_histories_are_cut, mpackets_in_order, octets_stay, one_history,
+    queries_stay, small_histories_are_legal, starts_are_decided, starts_are_read, starts_stay,
+    tests_are_decided, turns_are_kept, user_frames_are_no_lldp_frames, wants_stay,
 };
 pub use written::events_are_written;

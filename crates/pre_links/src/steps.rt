@@ -82,7 +82,7 @@ pub fn adverts_are_sent()
         → advert_of (WholeOf w h b) ≡ Some (AdvertAt w h b.arc b.tick) }
 {
     pre_lldp::read_back();
-    pre_history::direct_arrivals();
+    pre_history::user_frames_are_no_lldp_frames();
 }
 
 /// An LLDP frame that arrives and is the one that was sent says an advert.

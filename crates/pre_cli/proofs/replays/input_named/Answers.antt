@@ -1,8 +1,10 @@
-use Rattle.std.proofs.Common.{◌≡◌, List, Some, None, refl, subst, rules}
+use Rattle.std.proofs.Common.{◌≡◌, List, Some, None, refl, sym, subst, rules}
+use Rattle.std.specs.Prelude.{AllPairs}
+use Rattle.pre_script.specs.Fits.{SendsInOrder}
 use Rattle.pre_streams.specs.declared.rows.Row.{Row}
 use Rattle.pre_script.specs.declared.scripts.SendLine.{SendLine}
 use Rattle.pre_cli.specs.declared.statuses.Status.TheVariants as status
-use Rattle.pre_cli.specs.Curves.{CurvesHold, IsUnruly, Finds}
+use Rattle.pre_cli.specs.Curves.{CurvesHold, LinesRise, IsUnruly, Finds}
 use Rattle.pre_cli.specs.Replaying.{Replay, scripted_in, IsUnrulyAt}
 use Rattle.pre_cli.specs.Words.{ReplayWords, replay_words}
 use Rattle.pre_cli.proofs.ReadingLemmas.{untested_instead, failed_instead, passed_given}
@@ -37,3 +39,9 @@ returns-in-Err-clause-cause g c =
     let words : ReplayWords = replay_words c.args.net_word.now c.args.streams_word.now c.args.certificate_word.now c.args.script_word.now in
     untested_instead (scripted_in words) (λ y. CurvesHold y.0.1.0.rows y.1.sends) IsUnrulyAt c.in-Err.status (g.H.Shelf.faults c.args.shelf.now) (g.H.Shelf.faults c.scripted_named.new.shelf)
     (g.H.Shelf.tells c.args.shelf.now) (g.H.Shelf.tells c.scripted_named.new.shelf) c.in-Err.ensures.cause
+
+pub unruly_line-requires-clause-order : goal.unruly_line-requires-clause-order
+unruly_line-requires-clause-order g c = subst (AllPairs SendsInOrder) (sym c.as_slice.ensures) c.in-Ok.ensures.can.script_fits.sends_order
+
+pub unruly_line-requires-clause-rise : goal.unruly_line-requires-clause-rise
+unruly_line-requires-clause-rise g c = subst LinesRise (sym c.as_slice.ensures) c.in-Ok.ensures.rise
