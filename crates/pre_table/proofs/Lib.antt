@@ -2,3 +2,4 @@ mod Texts
 mod Known
 mod Gathered
 mod Elements
+pub mod Added
