@@ -3,3 +3,4 @@ mod Known
 mod Gathered
 mod Elements
 pub mod Added
+pub mod FirstRows

@@ -1,5 +1,5 @@
 -- The rules of a network file over its raw rows, and the first fault.
-use Rattle.std.specs.Prelude.{ℕ, Bool, true, false, not, ◌&&◌, ◌||◌, ◌^◌, List, [], ◌∷◌, length, take, codes, nat_le, Option, Some, None, is_some, option_map, position, sum_by, if◌then◌else◌}
+use Rattle.std.specs.Prelude.{ℕ, Bool, true, false, not, ◌&&◌, ◌||◌, ◌^◌, List, [], ◌∷◌, length, map, take, codes, nat_le, Option, Some, None, is_some, option_map, position, sum_by, if◌then◌else◌}
 use Rattle.std.specs.List.{list_all, list_any}
 use Rattle.std.specs.Option.{option_map_or}
 use Rattle.std.specs.Str.{bytes_eq}
@@ -28,6 +28,9 @@ abbrev pub unless : Bool → TopoFault → Option TopoFault
 unless holds fault = if holds then None else Some fault
 
 -- names
+
+abbrev pub node_names : List RawNode → List (List ℕ)
+node_names nodes = map (λ n. n.name) nodes
 
 abbrev pub is_named : List ℕ → RawNode → Bool
 is_named name n = bytes_eq n.name name
