@@ -4,3 +4,4 @@ mod Gathered
 mod Elements
 pub mod Added
 pub mod FirstRows
+pub mod Repeated

@@ -4,4 +4,3 @@ mod MadeNodes
 mod MadeArcs
 mod MadeNetwork
 mod Written
-pub mod Repeated
