@@ -5,3 +5,5 @@ mod Elements
 pub mod Added
 pub mod FirstRows
 pub mod Repeated
+mod Inserted
+pub mod PairsAdded
