@@ -51,6 +51,10 @@ is_node nodes name = list_any (is_named name) nodes
 abbrev pub joins : List ℕ → List ℕ → RawLink → Bool
 joins first second l = (bytes_eq l.first first && bytes_eq l.second second) || (bytes_eq l.first second && bytes_eq l.second first)
 
+-- an end isn't a node, or both ends are one
+abbrev pub has_wrong_end : List RawNode → RawLink → Bool
+has_wrong_end nodes l = not (is_node nodes l.first) || not (is_node nodes l.second) || bytes_eq l.first l.second
+
 -- an end isn't a node, both ends are one, or the two are linked by an earlier row
 abbrev pub ends_break : List RawNode → List RawLink → ℕ → RawLink → Bool
 ends_break nodes links place l = not (is_node nodes l.first) || not (is_node nodes l.second) || bytes_eq l.first l.second || list_any (joins l.first l.second) (take place links)

@@ -1,14 +1,14 @@
-ghost use Rattle.std.specs.Prelude.{◌≡◌, ◌<◌, length, IfOk};
+ghost use Rattle.std.specs.Prelude.{◌≡◌, IfOk};
 ghost use Rattle.std.specs.List.{list_any};
 ghost use Rattle.std.specs.Str.{bytes_eq};
 ghost use Rattle.pre_table.specs.FirstFaults.{first_row};
 ghost use Rattle.pre_table.specs.TextSets.{IsSetOf};
-ghost use Rattle.pre_topo.specs.FileRules.{node_names, name_breaks, name_fault, is_named, joins, ends_break, end_fault};
+ghost use Rattle.pre_topo.specs.FileRules.{node_names, name_breaks, name_fault, is_named, has_wrong_end, ends_break, end_fault};
 
 use crate::TopoFault;
 use crate::raw::{RawLink, RawNode};
 use pre_base::{FileRow, Name};
-use pre_table::TextSet;
+use pre_table::{PairSet, TextSet};
 use std::alloc::{AllocError, Global};
 
 fn is_same(a: &Name, b: &Name) -> bool
@@ -48,41 +48,34 @@ fn bad_name(alloc: Global, nodes: &[RawNode]) -> Result<Option<usize>, AllocErro
     Ok(None)
 }
 
-fn joins(link: &RawLink, first: &Name, second: &Name) -> bool
-    ensures { result ≡ joins first.now second.now link.now }
-{
-    (is_same(&link.first, first) && is_same(&link.second, second))
-        || (is_same(&link.first, second) && is_same(&link.second, first))
-}
-
-fn are_joined(links: &[RawLink], first: &Name, second: &Name) -> bool
-    ensures { result ≡ list_any (joins first.now second.now) links.now }
-{
-    links.iter().any(|link| joins(link, first, second))
-}
-
-fn ends_break(
-    nodes: &[RawNode],
-    names: &TextSet,
-    links: &[RawLink],
-    place: usize,
-    link: &RawLink,
-) -> bool
-    requires names { IsSetOf names.now (node_names nodes.now) }
-    requires place { place < length links.now }
-    ensures { result ≡ ends_break nodes.now links.now place link.now }
+fn has_wrong_end(nodes: &[RawNode], names: &TextSet, link: &RawLink) -> bool
+    requires { IsSetOf names.now (node_names nodes.now) }
+    ensures { result ≡ has_wrong_end nodes.now link.now }
 {
     !is_given(nodes, names, &link.first)
         || !is_given(nodes, names, &link.second)
         || is_same(&link.first, &link.second)
-        || are_joined(&links[..place], &link.first, &link.second)
 }
 
-fn bad_ends(nodes: &[RawNode], names: &TextSet, links: &[RawLink]) -> Option<usize>
+fn bad_ends(
+    alloc: Global,
+    nodes: &[RawNode],
+    names: &TextSet,
+    links: &[RawLink],
+) -> Result<Option<usize>, AllocError>
     requires { IsSetOf names.now (node_names nodes.now) }
-    ensures { result ≡ first_row (ends_break nodes.now links.now) links.now }
+    ensures { IfOk result (λ place. place ≡ first_row (ends_break nodes.now links.now) links.now) }
 {
-    links.iter().enumerate().position(|(place, link)| ends_break(nodes, names, links, place, link))
+    let mut joined = PairSet::new(alloc);
+    for (row, link) in links.iter().enumerate() {
+        let first = link.first.as_str();
+        let second = link.second.as_str();
+        if has_wrong_end(nodes, names, link) || !joined.add(first, second)? {
+            return Ok(Some(row));
+        }
+        joined.add(second, first)?;
+    }
+    Ok(None)
 }
 
 /// The first node whose name isn't one, or was given before.
@@ -107,7 +100,7 @@ pub(crate) fn end_fault(
     ensures { IfOk result (λ fault. fault ≡ end_fault nodes.now links.now) }
 {
     let names = names_of(alloc, nodes)?;
-    let Some(place) = bad_ends(nodes, &names, links) else {
+    let Some(place) = bad_ends(alloc, nodes, &names, links)? else {
         return Ok(None);
     };
     let row = FileRow::Link(place as u64);
