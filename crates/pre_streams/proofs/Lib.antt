@@ -1,3 +1,4 @@
+pub mod RowNames
 mod Found
 mod PairFits
 mod Faultless

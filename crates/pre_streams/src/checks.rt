@@ -1,16 +1,17 @@
-ghost use Rattle.std.specs.Prelude.{◌≡◌, ◌<◌, length, position, is_some, slice_get, true, nat_lt, ◌+◌};
-ghost use Rattle.std.specs.List.{list_any};
+ghost use Rattle.std.specs.Prelude.{◌≡◌, ◌<◌, length, position, is_some, slice_get, true, nat_lt, ◌+◌, IfOk};
 ghost use Rattle.std.specs.Option.{option_map_or};
 ghost use Rattle.pre_base.specs.declared.limits.TheConstants.{OVERHEAD};
 ghost use Rattle.pre_table.specs.FirstFaults.{first_row};
-ghost use Rattle.pre_streams.specs.FileRules.{is_named, name_breaks, row_at, hop_fault, bad_route, class_rule, class_breaks, length_in_range, curve_in_range, row_in_range, is_carried, range_breaks, burst_breaks, name_fault, route_fault, class_fault, range_fault, burst_fault, counts_hold, raw_fault};
+ghost use Rattle.pre_streams.specs.FileRules.{name_breaks, row_at, hop_fault, bad_route, class_rule, class_breaks, length_in_range, curve_in_range, row_in_range, is_carried, range_breaks, burst_breaks, name_fault, route_fault, class_fault, range_fault, burst_fault, counts_hold, raw_fault};
 
 use crate::StreamFault;
 use crate::arc_rules::{ArcRule, holds_along};
 use crate::raw::{RawCurve, RawFlow, RawStreams};
-use crate::routes::{hop_fault, is_same};
-use pre_base::{FileRow, GREATEST_FRAME, LEAST_FRAME, Name, OVERHEAD};
+use crate::routes::hop_fault;
+use pre_base::{FileRow, GREATEST_FRAME, LEAST_FRAME, OVERHEAD};
+use pre_table::TextSet;
 use pre_topo::Network;
+use std::alloc::{AllocError, Global};
 
 fn row_at(streams: usize, place: usize) -> FileRow
     ensures { result ≡ row_at streams place }
@@ -22,34 +23,28 @@ fn row_at(streams: usize, place: usize) -> FileRow
     }
 }
 
-fn is_given(rows: &[RawFlow], name: &Name) -> bool
-    ensures { result ≡ list_any (is_named name.now) rows.now }
+fn bad_name(alloc: Global, rows: &[RawFlow]) -> Result<Option<usize>, AllocError>
+    ensures { IfOk result (λ place. place ≡ first_row (name_breaks rows.now) rows.now) }
 {
-    rows.iter().any(|row| is_same(&row.name, name))
-}
-
-fn name_breaks(rows: &[RawFlow], place: usize, row: &RawFlow) -> bool
-    requires { place < length rows.now }
-    ensures { result ≡ name_breaks rows.now place row.now }
-{
-    !pre_text::name(row.name.as_str().as_bytes()) || is_given(&rows[..place], &row.name)
-}
-
-fn bad_name(rows: &[RawFlow]) -> Option<usize>
-    ensures { result ≡ first_row (name_breaks rows.now) rows.now }
-{
-    rows.iter()
-        .enumerate()
-        .position(|(place, row)| name_breaks(rows, place, row))
+    let mut names = TextSet::new(alloc);
+    for (place, row) in rows.iter().enumerate() {
+        let name = row.name.as_str();
+        if !pre_text::name(name.as_bytes()) || !names.add(name)? {
+            return Ok(Some(place));
+        }
+    }
+    Ok(None)
 }
 
 #[tactic(auto, unfolding(crate::specs::FileRules::name_fault))]
-fn name_fault(raw: &RawStreams) -> Option<StreamFault>
-    ensures { result ≡ name_fault raw.now }
+fn name_fault(alloc: Global, raw: &RawStreams) -> Result<Option<StreamFault>, AllocError>
+    ensures { IfOk result (λ fault. fault ≡ name_fault raw.now) }
 {
-    let place = bad_name(raw.rows.as_slice())?;
+    let Some(place) = bad_name(alloc, raw.rows.as_slice())? else {
+        return Ok(None);
+    };
     let row = row_at(raw.curves.len(), place);
-    Some(StreamFault::Name { row })
+    Ok(Some(StreamFault::Name { row }))
 }
 
 fn has_bad_route(net: &Network, rows: &[RawFlow], row: &RawFlow) -> bool
@@ -219,27 +214,31 @@ fn counts_hold(raw: &RawStreams) -> bool
 }
 
 /// The first fault, by rule and then by row.
-pub(crate) fn raw_fault(net: &Network, raw: &RawStreams) -> Option<StreamFault>
-    ensures { result ≡ raw_fault net.now raw.now }
+pub(crate) fn raw_fault(
+    alloc: Global,
+    net: &Network,
+    raw: &RawStreams,
+) -> Result<Option<StreamFault>, AllocError>
+    ensures { IfOk result (λ fault. fault ≡ raw_fault net.now raw.now) }
 {
-    if let Some(fault) = name_fault(raw) {
-        return Some(fault);
+    if let Some(fault) = name_fault(alloc, raw)? {
+        return Ok(Some(fault));
     }
     if let Some(fault) = route_fault(net, raw) {
-        return Some(fault);
+        return Ok(Some(fault));
     }
     if let Some(fault) = class_fault(net, raw) {
-        return Some(fault);
+        return Ok(Some(fault));
     }
     if let Some(fault) = range_fault(net, raw) {
-        return Some(fault);
+        return Ok(Some(fault));
     }
     if let Some(fault) = burst_fault(raw) {
-        return Some(fault);
+        return Ok(Some(fault));
     }
     if counts_hold(raw) {
-        None
+        Ok(None)
     } else {
-        Some(StreamFault::Count)
+        Ok(Some(StreamFault::Count))
     }
 }

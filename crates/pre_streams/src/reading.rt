@@ -46,7 +46,7 @@ fn streams_made(alloc: Global, net: &Network, raw: &RawStreams) -> Result<Stream
     ensures exact { ReadsAs result (of_raw net.now raw.now) }
     ensures fits { IfOk result (Fits net.now) }
 {
-    if let Some(fault) = raw_fault(net, raw) {
+    if let Some(fault) = raw_fault(alloc, net, raw)? {
         return Err(fault);
     }
     let rows = rows_made(alloc, net, raw)?;

@@ -3,3 +3,4 @@ pub mod Values
 pub mod Rows
 pub mod FirstFaults
 pub mod NoFaults
+pub mod TextSets

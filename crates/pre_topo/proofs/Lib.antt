@@ -4,3 +4,4 @@ mod MadeNodes
 mod MadeArcs
 mod MadeNetwork
 mod Written
+mod Linked

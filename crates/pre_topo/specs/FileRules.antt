@@ -1,5 +1,5 @@
 -- The rules of a network file over its raw rows, and the first fault.
-use Rattle.std.specs.Prelude.{ℕ, Bool, true, false, not, ◌&&◌, ◌||◌, ◌^◌, List, [], ◌∷◌, length, take, codes, nat_le, Option, Some, None, is_some, option_map, position, sum_by, if◌then◌else◌}
+use Rattle.std.specs.Prelude.{ℕ, Bool, true, false, not, ◌&&◌, ◌||◌, ◌^◌, List, [], ◌∷◌, length, map, take, codes, nat_le, Option, Some, None, is_some, option_map, position, sum_by, if◌then◌else◌}
 use Rattle.std.specs.List.{list_all, list_any}
 use Rattle.std.specs.Option.{option_map_or}
 use Rattle.std.specs.Str.{bytes_eq}
@@ -29,6 +29,9 @@ unless holds fault = if holds then None else Some fault
 
 -- names
 
+abbrev pub node_names : List RawNode → List (List ℕ)
+node_names nodes = map (λ n. n.name) nodes
+
 abbrev pub is_named : List ℕ → RawNode → Bool
 is_named name n = bytes_eq n.name name
 
@@ -47,6 +50,10 @@ is_node nodes name = list_any (is_named name) nodes
 -- it joins the nodes of these two names, in either order
 abbrev pub joins : List ℕ → List ℕ → RawLink → Bool
 joins first second l = (bytes_eq l.first first && bytes_eq l.second second) || (bytes_eq l.first second && bytes_eq l.second first)
+
+-- an end isn't a node, or both ends are one
+abbrev pub has_wrong_end : List RawNode → RawLink → Bool
+has_wrong_end nodes l = not (is_node nodes l.first) || not (is_node nodes l.second) || bytes_eq l.first l.second
 
 -- an end isn't a node, both ends are one, or the two are linked by an earlier row
 abbrev pub ends_break : List RawNode → List RawLink → ℕ → RawLink → Bool

@@ -1,4 +1,4 @@
-ghost use Rattle.std.specs.Prelude.{◌≡◌, length, not, position, true};
+ghost use Rattle.std.specs.Prelude.{◌≡◌, length, not, position, true, IfOk};
 ghost use Rattle.std.specs.Option.{option_map_or};
 ghost use Rattle.std.specs.List.{list_all};
 ghost use Rattle.pre_table.specs.Values.{is_within};
@@ -9,6 +9,7 @@ use crate::raw::{RawLink, RawNetwork, RawNode, RawTiming};
 use crate::{Mode, NodeKind, Policy, TopoFault};
 use pre_base::{FileRow, GREATEST_FRAME, LEAST_FRAME, Name};
 use pre_table::Whole;
+use std::alloc::{AllocError, Global};
 
 pub(crate) fn kind_of(word: &Name) -> Option<NodeKind>
     ensures { result ≡ kind_of word.now }
@@ -139,23 +140,23 @@ fn counts_hold(nodes: usize, links: usize) -> bool
 }
 
 /// The first fault of names, ends, ranges and counts.
-pub(crate) fn rows_fault(raw: &RawNetwork) -> Option<TopoFault>
-    ensures { result ≡ rows_fault raw.now }
+pub(crate) fn rows_fault(alloc: Global, raw: &RawNetwork) -> Result<Option<TopoFault>, AllocError>
+    ensures { IfOk result (λ fault. fault ≡ rows_fault raw.now) }
 {
     let nodes = raw.nodes.as_slice();
     let links = raw.links.as_slice();
-    if let Some(fault) = name_fault(nodes) {
-        return Some(fault);
+    if let Some(fault) = name_fault(alloc, nodes)? {
+        return Ok(Some(fault));
     }
-    if let Some(fault) = end_fault(nodes, links) {
-        return Some(fault);
+    if let Some(fault) = end_fault(alloc, nodes, links)? {
+        return Ok(Some(fault));
     }
     if let Some(fault) = range_fault(raw) {
-        return Some(fault);
+        return Ok(Some(fault));
     }
     if counts_hold(nodes.len(), links.len()) {
-        None
+        Ok(None)
     } else {
-        Some(TopoFault::Count)
+        Ok(Some(TopoFault::Count))
     }
 }

@@ -42,7 +42,7 @@ fn network_in(alloc: Global, table: &Table) -> Result<Network, TopoFault>
 fn network_made(alloc: Global, raw: &RawNetwork) -> Result<Network, TopoFault>
     ensures { ReadsAs result (of_raw raw.now) }
 {
-    if let Some(fault) = rows_fault(raw) {
+    if let Some(fault) = rows_fault(alloc, raw)? {
         return Err(fault);
     }
     let (raw_nodes, raw_links) = (raw.nodes.as_slice(), raw.links.as_slice());

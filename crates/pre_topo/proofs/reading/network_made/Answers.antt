@@ -10,29 +10,29 @@ use Rattle.pre_topo.proofs.reading.network_made.Goals as goal
 
 pub arcs_made-requires-clause-top : goal.arcs_made-requires-clause-top
 arcs_made-requires-clause-top c =
-    let none : rows_fault c.args.raw.now ≡ None = sym c.rows_fault.ensures ∙ c.in_default.is in
+    let none : rows_fault c.args.raw.now ≡ None = sym c.in_ok-fault.ensures ∙ c.in_default.is in
     (faultless c.args.raw.now none).express
 
 pub arcs_made-requires-clause-range : goal.arcs_made-requires-clause-range
 arcs_made-requires-clause-range c =
-    let none : rows_fault c.args.raw.now ≡ None = sym c.rows_fault.ensures ∙ c.in_default.is in
+    let none : rows_fault c.args.raw.now ≡ None = sym c.in_ok-fault.ensures ∙ c.in_default.is in
     rw c.as_slice-raw_links.ensures (faultless c.args.raw.now none).links.range
 
 pub sums_fault-requires : goal.sums_fault-requires
 sums_fault-requires c =
-    let none : rows_fault c.args.raw.now ≡ None = sym c.rows_fault.ensures ∙ c.in_default.is in
+    let none : rows_fault c.args.raw.now ≡ None = sym c.in_ok-fault.ensures ∙ c.in_default.is in
     let arcs : c.as_slice-2.result.now ≡ arcs_made c.args.raw.now.express_from c.args.raw.now.nodes c.args.raw.now.links = cc (c.in_ok-arcs.ensures) in
     rw arcs (bounded c.args.raw.now none)
 
 pub overflow_cast-result : goal.overflow_cast-result
 overflow_cast-result c =
-    let none : rows_fault c.args.raw.now ≡ None = sym c.rows_fault.ensures ∙ c.in_default.is in
+    let none : rows_fault c.args.raw.now ≡ None = sym c.in_ok-fault.ensures ∙ c.in_default.is in
     let range = within 1 7 c.args.raw.now.express_from (faultless c.args.raw.now none).express in
     omega (arith, range.1)
 
 pub invariant_of-result : goal.invariant_of-result
 invariant_of-result c =
-    let none : rows_fault c.args.raw.now ≡ None = sym c.rows_fault.ensures ∙ c.in_default.is in
+    let none : rows_fault c.args.raw.now ≡ None = sym c.in_ok-fault.ensures ∙ c.in_default.is in
     let nodes : c.in_ok-nodes.nodes ≡ nodes_made c.args.raw.now.nodes = cc (c.in_ok-nodes.ensures) in
     let arcs : c.in_ok-arcs.arcs ≡ arcs_made c.args.raw.now.express_from c.args.raw.now.nodes c.args.raw.now.links = cc (c.in_ok-arcs.ensures) in
     let fits : sums_fault (nodes_made c.args.raw.now.nodes) (arcs_made c.args.raw.now.express_from c.args.raw.now.nodes c.args.raw.now.links) ≡ None =
