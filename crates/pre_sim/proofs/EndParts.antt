@@ -104,10 +104,10 @@ module _ (w : Scenario) (t a : ℕ) (a_lt : a < length w.net.arcs) (old : Lane) 
 module _ (w : Scenario) (t a : ℕ) (a_lt : a < length w.net.arcs) (store : Store) (old new : Lane) (keeps : LaneKeeps w store a old) (l : Leaving) (f : Finished) (p : OnWire)
     (leaves : IsLeaving store old.outgoing l) (due : plans_end old.outgoing.sender ≡ Some t)
     (ends : (h : History) (e : Ended) → LegalUpTo w (number (length w.net.arcs) t (1 + a)) h → Sends w h a t true old.outgoing → AreStored w store (frames_of old.outgoing.sender)
-        → HappensIn w h t (Phase.ends a) (PlainEvent.ended e ∷ []) → HasEnded w h t a e f new.outgoing)
+    → HappensIn w h t (Phase.ends a) (PlainEvent.ended e ∷ []) → HasEnded w h t a e f new.outgoing)
     (pushed : (h : History) (e : Ended) → e.arc ≡ a → LegalUpTo w (moment_of w e.tick (Phase.ends a)) h → IsOnWire w h a p e → Receives w h a old.incoming → Receives w (h ++ PlainEvent.ended e ∷ []) a new.incoming)
     (linked : (h : History) (e : Ended) → LegalUpTo w (moment_of w t (Phase.ends a)) h → LinkStands w h a t old.link → e.arc ≡ a → e.tick ≡ t → e.ord ≡ length (Ends h a) → length (Ends h a) < length (Begins h a)
-        → LinkStands w (h ++ PlainEvent.ended e ∷ []) a t new.link)
+    → LinkStands w (h ++ PlainEvent.ended e ∷ []) a t new.link)
     (ord : p.ord ≡ f.ord) (carries : p.what ≡ f.what) (is_last : p.is_last ≡ f.is_last) (kind : p.kind ≡ l.kind) (octets : p.octets.items ≡ l.octets.items) (its_due : p.due.0 ≡ t + (arc w a).delay)
     (rings : new.rings ≡ old.rings) (partner : new.partner ≡ old.partner) (setting : new.setting ≡ old.setting) where
   abbrev told : Ended

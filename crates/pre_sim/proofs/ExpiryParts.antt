@@ -50,9 +50,9 @@ told_earlier w h a t u (Some v) lt = told_later w h (PlainEvent.active t a v ∷
 module _ (w : Scenario) (t a : ℕ) (a_lt : a < length w.net.arcs) (partner : Partner) (old new : Lane) (o : Option Bool)
     (rings : new.rings ≡ old.rings) (outgoing : new.outgoing ≡ old.outgoing) (incoming : new.incoming ≡ old.incoming) (its_partner : new.partner ≡ old.partner) (setting : new.setting ≡ old.setting)
     (happens : (h : History) → LegalUpTo w (moment_of w t (Phase.expiries a)) h → Hears w h (reverse_of a) partner → ((arc w a).mode ≡ mode.Negotiate → LinkStands w h a t old.link) → old.setting ≡ SettingOf w a t
-        → HappensIn w h t (Phase.expiries a) (told t a o))
+    → HappensIn w h t (Phase.expiries a) (told t a o))
     (linked : (h : History) → LegalUpTo w (moment_of w t (Phase.expiries a)) h → Hears w h (reverse_of a) partner → (arc w a).mode ≡ mode.Negotiate → LinkStands w h a t old.link → old.setting ≡ SettingOf w a t
-        → LinkStands w (h ++ told t a o) a (t + 1) new.link) where
+    → LinkStands w (h ++ told t a o) a (t + 1) new.link) where
   abbrev A : ℕ
   A = length w.net.arcs
 

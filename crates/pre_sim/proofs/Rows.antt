@@ -117,8 +117,8 @@ module _ (w : Scenario) (t k n m d : ℕ) (p : Phase) (store store' store'' : St
         let legal' : LegalAt w t (k + (n + 1)) ((h ++ es) ++ fs) = subst (λ j. LegalAt w t j ((h ++ es) ++ fs)) next_place now.legal in
         let mine : of_arc n inside ++ next ≡ of_arc n (inside ++ next) = ap (λ xs. of_arc n inside ++ xs) (sym (all_of n next part.here)) ∙ sym (of_arc-append n inside next) in
         let its : LaneStands w ((h ++ es) ++ fs) n (stage_at A t (k + (n + 1)) n) new (of_arc n (inside ++ next)) =
-            subst (λ j. LaneStands w ((h ++ es) ++ fs) n (stage_at A t j n) new (of_arc n (inside ++ next))) next_place
-            (subst (LaneStands w ((h ++ es) ++ fs) n (stage_at A t (its_place w p + 1) n) new) mine now.stands) in
+        subst (λ j. LaneStands w ((h ++ es) ++ fs) n (stage_at A t j n) new (of_arc n (inside ++ next))) next_place
+        (subst (LaneStands w ((h ++ es) ++ fs) n (stage_at A t (its_place w p + 1) n) new) mine now.stands) in
         let each : LanesStand w ((h ++ es) ++ fs) t (k + (n + 1)) (set mid n new) (inside ++ next) = λ a l at. elim (cases_eq a n) [
           | inl is ↦ subst (λ (x : Lane). LaneStands w ((h ++ es) ++ fs) a (stage_at A t (k + (n + 1)) a) x (of_arc a (inside ++ next))) (set_found mid n new l (subst (λ j. slice_get (set mid n new) j ≡ Some l) is at))
               (subst (λ j. LaneStands w ((h ++ es) ++ fs) j (stage_at A t (k + (n + 1)) j) new (of_arc j (inside ++ next))) (sym is) its)
@@ -128,9 +128,9 @@ module _ (w : Scenario) (t k n m d : ℕ) (p : Phase) (store store' store'' : St
               let others : of_arc a inside ≡ of_arc a (inside ++ next) = sym (of_arc-append a inside next ∙ (ap (λ xs. of_arc a inside ++ xs) (none_of a n other next part.here) ∙ append-nil (of_arc a inside))) in
               let off = apart_of A n a p place own other a_lt in
               let stage : stage_at A t (k + n) a ≡ stage_at A t (k + (n + 1)) a =
-                  ap (λ j. stage_at A t j a) (sym p_at) ∙ (sym (same_stage A t (its_place w p) a off.some off.no_expiry off.no_entry off.no_start) ∙ ap (λ j. stage_at A t j a) next_place) in
+              ap (λ j. stage_at A t j a) (sym p_at) ∙ (sym (same_stage A t (its_place w p) a off.some off.no_expiry off.no_entry off.no_start) ∙ ap (λ j. stage_at A t j a) next_place) in
               let over : AreOver w (link_turn (stage_at A t (k + n) a)) (moment_of w t p) =
-                  subst (λ j. AreOver w (link_turn (stage_at A t j a)) (moment_of w t p)) p_at (are_over w t (its_place w p) a a_lt off.some) in
+              subst (λ j. AreOver w (link_turn (stage_at A t j a)) (moment_of w t p)) p_at (are_over w t (its_place w p) a a_lt off.some) in
               subst (LaneStands w ((h ++ es) ++ fs) a (stage_at A t (k + (n + 1)) a) l) others
               (subst (λ s. LaneStands w ((h ++ es) ++ fs) a s l (of_arc a inside)) stage
               (stays w t p (h ++ es) fs a a_lt place was.legal.0 now.happens off.no_end off.no_arrival off.no_expiry off.no_entry off.no_start (stage_at A t (k + n) a) l (of_arc a inside) over (first.1 a l there)))

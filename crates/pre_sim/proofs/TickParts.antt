@@ -75,10 +75,10 @@ module _ (w : Scenario) (t : ℕ) where
         let two = second.legal (h ++ es) entries one.0 one.2.2 in
         let legal : LegalAt w (t + 1) 0 ((h ++ es) ++ fs) = subst (LegalBefore w ((h ++ es) ++ fs)) (next t A) two.0 in
         let all : length (Deliveries ((h ++ es) ++ fs)) ≡ length (Deliveries h) + 0 + 0 =
-            ap length (filter_map-append delivery_of (h ++ es) fs) ∙ (length-append (Deliveries (h ++ es)) (Deliveries fs)
-            ∙ adds (ap length (filter_map-append delivery_of h es) ∙ (length-append (Deliveries h) (Deliveries es) ∙ adds refl first.deliveries)) second.deliveries) in
+        ap length (filter_map-append delivery_of (h ++ es) fs) ∙ (length-append (Deliveries (h ++ es)) (Deliveries fs)
+        ∙ adds (ap length (filter_map-append delivery_of h es) ∙ (length-append (Deliveries h) (Deliveries es) ∙ adds refl first.deliveries)) second.deliveries) in
         let drops : count_by is_dropped ((h ++ es) ++ fs) ≡ (count_by is_dropped h + count_by is_dropped es) + 0 =
-            count_by-append is_dropped (h ++ es) fs ∙ adds (count_by-append is_dropped h es) second.drops in
+        count_by-append is_dropped (h ++ es) fs ∙ adds (count_by-append is_dropped h es) second.drops in
         let stand : LanesStand w ((h ++ es) ++ fs) t (2 + 3 * A + A) e entries = subst (LanesStand w ((h ++ es) ++ fs) t (2 + 3 * A + A) e) (append-nil entries) two.1 in
         subst (λ g. Reaches w (t + 1) 0 g new) (append_assoc h es fs) (record {
           legal = legal;

@@ -51,15 +51,15 @@ returns-clause-part g c =
     part_of_one c.args.plan.now.net.now c.tell.result (g.W.Watcher.took c.args.watcher.now) (g.W.Watcher.took c.tell.new.watcher) (g.W.Watcher.torn c.tell.new.watcher) _ _ _ _
     c.tell.ensures.one
     (λ x. ended_part w t a c.requires.arc c.args.store.now lane new c.requires.keeps l f p leaves due
-        (λ h e legal sends stored happens. c.finish-ord.ensures.ends w h a e c.requires.arc legal sends stored happens)
-        (λ h e on legal wire receives. c.in_ok-push.ensures.ok w h a e c.requires.arc on legal wire receives)
-        (λ h e legal stands on at ord few. c.mpacket_ended.ensures.stands w h a e c.requires.arc legal stands on at ord few)
-        refl refl refl refl refl delay refl refl refl c.put_back.new.store c.put_back.ensures c.finish-ord.ensures.frames)
+    (λ h e legal sends stored happens. c.finish-ord.ensures.ends w h a e c.requires.arc legal sends stored happens)
+    (λ h e on legal wire receives. c.in_ok-push.ensures.ok w h a e c.requires.arc on legal wire receives)
+    (λ h e legal stands on at ord few. c.mpacket_ended.ensures.stands w h a e c.requires.arc legal stands on at ord few)
+    refl refl refl refl refl delay refl refl refl c.put_back.new.store c.put_back.ensures c.finish-ord.ensures.frames)
     (ended_front w t a c.requires.arc c.args.store.now lane new c.requires.keeps l f p leaves due
-        (λ h e legal sends stored happens. c.finish-ord.ensures.ends w h a e c.requires.arc legal sends stored happens)
-        (λ h e on legal wire receives. c.in_ok-push.ensures.ok w h a e c.requires.arc on legal wire receives)
-        (λ h e legal stands on at ord few. c.mpacket_ended.ensures.stands w h a e c.requires.arc legal stands on at ord few)
-        refl refl refl refl refl delay refl refl refl)
+    (λ h e legal sends stored happens. c.finish-ord.ensures.ends w h a e c.requires.arc legal sends stored happens)
+    (λ h e on legal wire receives. c.in_ok-push.ensures.ok w h a e c.requires.arc on legal wire receives)
+    (λ h e legal stands on at ord few. c.mpacket_ended.ensures.stands w h a e c.requires.arc legal stands on at ord few)
+    refl refl refl refl refl delay refl refl refl)
 
 pub put_back-requires : goal.put_back-requires
 put_back-requires g c = done_is_out c.args.store.now (frames_of c.args.lane.now.outgoing.sender) c.finish-ord.result.done (frames_of c.finish-ord.new.self.sender)

@@ -71,7 +71,7 @@ returns-in_err-end_on-clause-part g c =
     (λ x es. LanePart w c.args.now.0 (Phase.ends c.loop-arc.arc) c.loop-arc.arc None lane 0 c.loop-arc.store c.end_on.new.store c.end_on.new.lane [] es) (LaneFront w c.args.now.0 (Phase.ends c.loop-arc.arc) c.loop-arc.arc None lane) _ _ _
     before.1 c.end_on.ensures.part
     (λ fs front. front_more w c.args.now.0 1 c.loop-arc.arc 0 0 (Phase.ends c.loop-arc.arc) c.args.store.now c.loop-arc.store c.end_on.new.store c.args.lanes.now c.loop-arc.lanes None lane c.end_on.new.lane here
-        (omega (arith, c.loop-arc.invariant.long)) refl (search rules, refl) refl [] [] before.0 fs before.2 (λ h entries stand. tt) front)
+    (omega (arith, c.loop-arc.invariant.long)) refl (search rules, refl) refl [] [] before.0 fs before.2 (λ h entries stand. tt) front)
     c.in_err-end_on.field-0.0 c.in_err-end_on.was (search rules)
 
 pub returns-clause-part : goal.returns-clause-part

@@ -43,8 +43,8 @@ returns-in_err-expire_on-clause-part g c =
     let here : slice_get c.loop-arc.lanes n ≡ Some lane = found ∙ ap Some c.index-lanes-arc.is in
     let other : Lane = slice_index_or c.loop-arc.lanes c.partner_of.result c.index-lanes-partner_of.result in
     let there : slice_get c.loop-arc.lanes (reverse_of n) ≡ Some other =
-        subst (λ j. slice_get c.loop-arc.lanes j ≡ Some other) c.partner_of.ensures
-        (found_at c.loop-arc.lanes c.partner_of.result c.index-lanes-partner_of.result (search rules) (sym c.index-lanes-partner_of.is) ∙ ap Some c.index-lanes-partner_of.is) in
+    subst (λ j. slice_get c.loop-arc.lanes j ≡ Some other) c.partner_of.ensures
+    (found_at c.loop-arc.lanes c.partner_of.result c.index-lanes-partner_of.result (search rules) (sym c.index-lanes-partner_of.is) ∙ ap Some c.index-lanes-partner_of.is) in
     let partner : Partner = other.partner in
     then_front c.args.plan.now.net.now c.expire_on.result c.from_residual.result (g.W.Watcher.took c.args.watcher.now) (g.W.Watcher.took c.loop-arc.watcher) (g.W.Watcher.took c.expire_on.new.watcher) (g.W.Watcher.torn c.expire_on.new.watcher) before.0
     (λ x es. (store : Store) → LanePart w t (Phase.expiries n) n (Some partner) lane 0 store store c.expire_on.new.lane [] es) (LaneFront w t (Phase.expiries n) n (Some partner) lane) _ _ _
@@ -63,8 +63,8 @@ loop-arc-preserved g c =
     let here : slice_get c.loop-arc.lanes n ≡ Some lane = found ∙ ap Some c.index-lanes-arc.is in
     let other : Lane = slice_index_or c.loop-arc.lanes c.partner_of.result c.index-lanes-partner_of.result in
     let there : slice_get c.loop-arc.lanes (reverse_of n) ≡ Some other =
-        subst (λ j. slice_get c.loop-arc.lanes j ≡ Some other) c.partner_of.ensures
-        (found_at c.loop-arc.lanes c.partner_of.result c.index-lanes-partner_of.result (search rules) (sym c.index-lanes-partner_of.is) ∙ ap Some c.index-lanes-partner_of.is) in
+    subst (λ j. slice_get c.loop-arc.lanes j ≡ Some other) c.partner_of.ensures
+    (found_at c.loop-arc.lanes c.partner_of.result c.index-lanes-partner_of.result (search rules) (sym c.index-lanes-partner_of.is) ∙ ap Some c.index-lanes-partner_of.is) in
     let partner : Partner = other.partner in
     let now = c.in_ok-expire_on.ensures.part in
     record {

@@ -118,7 +118,7 @@ returns-in_err-expiries-clause-part g c =
     _ (LanesFront w t (1 + 2 * length w.net.arcs) c.deref_mut-3.result.now) _ _ _
     told' c.expiries.ensures.part
     (λ es front. lead_front w t old (1 + length w.net.arcs + length w.net.arcs) _ _ _ _ _ ((first.0 ++ second.0) ++ third.0) arrived c.deref_mut-3.result.now back' es
-        (subst (λ k. LanesFront w t k c.deref_mut-3.result.now es) (twice (length w.net.arcs)) front))
+    (subst (λ k. LanesFront w t k c.deref_mut-3.result.now es) (twice (length w.net.arcs)) front))
     c.in_err-expiries.field-0.0 c.in_err-expiries.was (search rules)
 
 pub returns-in_err-expiries-clause-same : goal.returns-in_err-expiries-clause-same
@@ -176,11 +176,9 @@ returns-clause-part g c =
     let told' = tells_then c.args.plan.now.net.now (g.W.Watcher.took c.args.watcher.now) (g.W.Watcher.took c.ends.new.watcher) (g.W.Watcher.took c.arrivals.new.watcher) (first.0 ++ second.0) third.0 told third.1 in
     let fourth = c.in_ok-expiries.ensures.part in
     let expired = lead_on w t old (1 + length w.net.arcs + length w.net.arcs) _ _ _ _ _ ((first.0 ++ second.0) ++ third.0) arrived c.deref_mut-3.result.now back' (length w.net.arcs) 0 c.arrivals.new.store c.expiries.new.lanes [] fourth.0 (subst (λ k. LanesPart w t k (length w.net.arcs) 0 c.arrivals.new.store c.arrivals.new.store c.deref_mut-3.result.now c.expiries.new.lanes [] fourth.0) (twice (length w.net.arcs)) (fourth.2 c.arrivals.new.store)) in
-    let takes : TakesIn w old.relay c.arrivals.new.relay (([] ++ []) ++ more ++ []) = subst (λ r. TakesIn w r c.arrivals.new.relay (([] ++ []) ++ more ++ [])) first.2.kept.0 (subst (TakesIn w c.sets.new.progress.relay c.arrivals.new.relay) (sym (append-nil more)) third.2.2) in
-    (
+    let takes : TakesIn w old.relay c.arrivals.new.relay (([] ++ []) ++ more ++ []) = subst (λ r. TakesIn w r c.arrivals.new.relay (([] ++ []) ++ more ++ [])) first.2.kept.0 (subst (TakesIn w c.sets.new.progress.relay c.arrivals.new.relay) (sym (append-nil more)) third.2.2) in (
       ((first.0 ++ second.0) ++ third.0) ++ fourth.0,
       tells_then c.args.plan.now.net.now (g.W.Watcher.took c.args.watcher.now) (g.W.Watcher.took c.arrivals.new.watcher) (g.W.Watcher.took c.expiries.new.watcher) ((first.0 ++ second.0) ++ third.0) fourth.0 told' fourth.1,
       landed w t old _ (1 + length w.net.arcs + length w.net.arcs + length w.net.arcs) c.sets.new.progress.set c.expiries.new.lanes _ _ (((first.0 ++ second.0) ++ third.0) ++ fourth.0) expired (thrice (length w.net.arcs)) takes (take_at c.expiries.new.lanes _ c.sets.new.progress.lanes.len (search rules)) c.in_ok-sets.ensures.counts.0 refl c.in_ok-sets.ensures.counts.1 c.sets.new.progress.delivered c.in_ok-delivered.delivered first.2.kept.3 (omega arith) c.saturating_add-progress.ensures c.requires.fit.script_fits.sends_count
           (λ n h legal. c.deliveries_are_of_frames_sent.ensures.so_far w (c.files_give_routes.ensures w c.requires.fit.streams_fit c.requires.fit.script_fits) n h legal),
     )
-

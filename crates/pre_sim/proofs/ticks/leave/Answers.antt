@@ -32,7 +32,7 @@ returns-clause-part g c =
     _ _ (LanesFront w t (2 + 3 * length w.net.arcs) c.deref_mut.result.now) _ _
     first.1 c.starts.ensures.part
     (λ x es part. left w t c.args.progress.now c.entries.new.progress c.deref_mut.result.now c.starts.new.lanes first.0 es first.2 c.deref_mut.ensures.value _ c.entries.new.progress.store (search rules) (part c.entries.new.progress.store)
-        (take_at c.starts.new.lanes _ c.entries.new.progress.lanes.len (search rules)) refl refl refl refl refl)
+    (take_at c.starts.new.lanes _ c.entries.new.progress.lanes.len (search rules)) refl refl refl refl refl)
     (λ es front. left_front w t c.args.progress.now c.entries.new.progress c.deref_mut.result.now c.starts.new.lanes first.0 es first.2 c.deref_mut.ensures.value front)
 
 pub returns-clause-kept : goal.returns-clause-kept
@@ -42,7 +42,7 @@ returns-clause-kept g c =
     on_ok c.args.plan.now.net.now c.starts.result (g.W.Watcher.took c.entries.new.watcher) (g.W.Watcher.took c.starts.new.watcher) (g.W.Watcher.torn c.starts.new.watcher)
     _ (LanesFront w t (2 + 3 * length w.net.arcs) c.deref_mut.result.now) _ _ c.starts.ensures.part
     (λ x es part. left_kept w t c.entries.new.progress _ c.deref_mut.result.now c.starts.new.lanes es c.deref_mut.ensures.value (part c.entries.new.progress.store)
-        (take_at c.starts.new.lanes _ c.entries.new.progress.lanes.len (search rules)) refl refl c.in_ok-entries.ensures.kept)
+    (take_at c.starts.new.lanes _ c.entries.new.progress.lanes.len (search rules)) refl refl c.in_ok-entries.ensures.kept)
 
 pub returns-clause-settled : goal.returns-clause-settled
 returns-clause-settled g c =

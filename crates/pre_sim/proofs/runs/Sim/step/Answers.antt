@@ -43,7 +43,7 @@ invariant_of-self-in-Ok-false g c =
     let w = scenario_of c.self.inside.plan in
     let done = c.in-Ok-false.ensures in
     let tick : TickPart w c.self.inside.next.0 c.self.inside.progress c.advance.new.progress done.part.0 =
-        subst (λ x. AdvancePart w c.self.inside.next.0 c.self.inside.progress c.advance.new.progress x done.part.0) c.in-Ok-false.field-0-test done.part.2 in (
+    subst (λ x. AdvancePart w c.self.inside.next.0 c.self.inside.progress c.advance.new.progress x done.part.0) c.in-Ok-false.field-0-test done.part.2 in (
       before.0,
       done.lanes,
       not_last c.in-Ok-false.field-0 c.self.inside.next c.self.inside.plan.script.now.until c.in-Ok-false.field-0-test done.last before.2,
