@@ -61,7 +61,11 @@ reaches_nothing s next set sent delivered dropped idle stands =
       calls = [];
       relay = stands;
       lanes = λ a lane at. idle_stands s.run a lane (idle.each a lane at);
-      sets = record { within = omega (arith, set); past = subst (λ n. Every (λ l. l.tick.0 < 0) (take n s.run.script.sets)) (sym set) tt; later = always (λ (l : SetLine). 0 ≤ l.tick.0) (drop s.progress.set s.run.script.sets) (λ l. omega arith) };
+      sets = record {
+        within = omega (arith, set);
+        past = subst (λ n. Every (λ l. l.tick.0 < 0) (take n s.run.script.sets)) (sym set) tt;
+        later = always (λ (l : SetLine). 0 ≤ l.tick.0) (drop s.progress.set s.run.script.sets) (λ l. omega arith);
+      };
       sends = subst (λ n. AreSentBefore s.run n s.progress.sent) (sym (sends_first (length s.run.net.arcs))) (record {
         within = omega (arith, sent);
         past = λ k lt. absurd (omega (arith, lt, sent));

@@ -49,9 +49,11 @@ told_earlier w h a t u (Some v) lt = told_later w h (PlainEvent.active t a v ∷
 
 module _ (w : Scenario) (t a : ℕ) (a_lt : a < length w.net.arcs) (partner : Partner) (old new : Lane) (o : Option Bool)
     (rings : new.rings ≡ old.rings) (outgoing : new.outgoing ≡ old.outgoing) (incoming : new.incoming ≡ old.incoming) (its_partner : new.partner ≡ old.partner) (setting : new.setting ≡ old.setting)
-    (happens : (h : History) → LegalUpTo w (moment_of w t (Phase.expiries a)) h → Hears w h (reverse_of a) partner → ((arc w a).mode ≡ mode.Negotiate → LinkStands w h a t old.link) → old.setting ≡ SettingOf w a t
+    (happens : (h : History) → LegalUpTo w (moment_of w t (Phase.expiries a)) h → Hears w h (reverse_of a) partner → ((arc w a).mode ≡ mode.Negotiate → LinkStands w h a t old.link)
+    → old.setting ≡ SettingOf w a t
     → HappensIn w h t (Phase.expiries a) (told t a o))
-    (linked : (h : History) → LegalUpTo w (moment_of w t (Phase.expiries a)) h → Hears w h (reverse_of a) partner → (arc w a).mode ≡ mode.Negotiate → LinkStands w h a t old.link → old.setting ≡ SettingOf w a t
+    (linked : (h : History) → LegalUpTo w (moment_of w t (Phase.expiries a)) h → Hears w h (reverse_of a) partner → (arc w a).mode ≡ mode.Negotiate → LinkStands w h a t old.link
+    → old.setting ≡ SettingOf w a t
     → LinkStands w (h ++ told t a o) a (t + 1) new.link) where
   abbrev A : ℕ
   A = length w.net.arcs
@@ -80,7 +82,8 @@ module _ (w : Scenario) (t a : ℕ) (a_lt : a < length w.net.arcs) (partner : Pa
     at = phase_events w h t (1 + 2 * A + a) (Phase.expiries a) es (a_lt, refl) now
 
     within : AllWithin A (moment_of w t (Phase.expiries a)) (suc (moment_of w t (Phase.expiries a))) es
-    within = every_weaker (IsAt A (moment_of w t (Phase.expiries a))) (IsWithin A (moment_of w t (Phase.expiries a)) (suc (moment_of w t (Phase.expiries a)))) (λ e here. (moment_of w t (Phase.expiries a), omega arith, omega arith, here)) es at
+    within = every_weaker (IsAt A (moment_of w t (Phase.expiries a))) (IsWithin A (moment_of w t (Phase.expiries a)) (suc (moment_of w t (Phase.expiries a))))
+        (λ e here. (moment_of w t (Phase.expiries a), omega arith, omega arith, here)) es at
 
     begins : Begins (h ++ es) a ≡ Begins h a
     begins = same_begins A t (1 + 2 * A + a) a (omega (arith, a_lt)) a_lt h es (omega (arith, a_lt)) at
@@ -99,7 +102,8 @@ module _ (w : Scenario) (t a : ℕ) (a_lt : a < length w.net.arcs) (partner : Pa
       rings = subst (AreRings w (h ++ es) a) (sym rings) (same_rings w h es a old begins entries stand.rings);
       outgoing = subst (Sends w (h ++ es) a t true) (sym outgoing) (other_events w h (h ++ es) a t true old.outgoing begins ends entries (λ u lt. told_earlier w h a t u o lt) stand.outgoing);
       incoming = subst (Receives w (h ++ es) a) (sym incoming) (others_stay w (moment_of w t (Phase.expiries a)) (suc (moment_of w t (Phase.expiries a))) h es b.legal.0 within a a_lt old.incoming
-          (same_ends A t (1 + 2 * A + a) a (omega (arith, a_lt)) a_lt [] es (omega (arith, a_lt)) at) (same_arrivals A t (1 + 2 * A + a) a (omega (arith, a_lt)) a_lt [] es (omega (arith, a_lt)) at) stand.incoming);
+          (same_ends A t (1 + 2 * A + a) a (omega (arith, a_lt)) a_lt [] es (omega (arith, a_lt)) at)
+          (same_arrivals A t (1 + 2 * A + a) a (omega (arith, a_lt)) a_lt [] es (omega (arith, a_lt)) at) stand.incoming);
       partner = subst (Hears w (h ++ es) a) (sym its_partner) (still_hears w t (Phase.expiries a) h es a a_lt (a_lt, refl) b.legal.0 now old.partner (omega (arith, a_lt)) stand.partner);
       setting = setting ∙ stand.setting;
       link = λ negotiates. linked h b.legal.0 b.hears negotiates (stand.link negotiates) stand.setting;

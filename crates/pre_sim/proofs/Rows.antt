@@ -48,14 +48,46 @@ record Apart (A k b : ℕ) : Type 0 where
 apart_of : (A n b : ℕ) (p : Phase) → HasPlace A (place_of A p) p → IsOf n p → b ≢ n → b < A → Apart A (place_of A p) b
 apart_of A n b Phase.sets place own other b_lt = absurd own
 apart_of A n b (Phase.ends a) (lt, place) own other b_lt =
-    record { some = omega arith; no_end = λ e. other (omega (arith, e, own)); no_arrival = omega (arith, lt); no_expiry = omega (arith, lt); no_entry = omega (arith, lt); no_start = omega (arith, lt) }
+    record {
+      some = omega arith;
+      no_end = λ e. other (omega (arith, e, own));
+      no_arrival = omega (arith, lt);
+      no_expiry = omega (arith, lt);
+      no_entry = omega (arith, lt);
+      no_start =
+          omega (arith, lt);
+    }
 apart_of A n b (Phase.arrivals a) (lt, place) own other b_lt =
-    record { some = omega arith; no_end = omega (arith, b_lt); no_arrival = λ e. other (omega (arith, e, own)); no_expiry = omega (arith, lt); no_entry = omega (arith, lt); no_start = omega (arith, lt) }
+    record {
+      some = omega arith;
+      no_end = omega (arith, b_lt);
+      no_arrival = λ e. other (omega (arith, e, own));
+      no_expiry = omega (arith, lt);
+      no_entry = omega (arith, lt);
+      no_start =
+          omega (arith, lt);
+    }
 apart_of A n b (Phase.expiries a) (lt, place) own other b_lt =
-    record { some = omega arith; no_end = omega (arith, b_lt); no_arrival = omega (arith, b_lt); no_expiry = λ e. other (omega (arith, e, own)); no_entry = omega (arith, lt); no_start = omega (arith, lt) }
+    record {
+      some = omega arith;
+      no_end = omega (arith, b_lt);
+      no_arrival = omega (arith, b_lt);
+      no_expiry = λ e. other (omega (arith, e, own));
+      no_entry = omega (arith, lt);
+      no_start =
+          omega (arith, lt);
+    }
 apart_of A n b Phase.entries place own other b_lt = absurd own
 apart_of A n b (Phase.starts a) (lt, place) own other b_lt =
-    record { some = omega arith; no_end = omega (arith, b_lt); no_arrival = omega (arith, b_lt); no_expiry = omega (arith, b_lt); no_entry = omega arith; no_start = λ e. other (omega (arith, e, own)) }
+    record {
+      some = omega arith;
+      no_end = omega (arith, b_lt);
+      no_arrival = omega (arith, b_lt);
+      no_expiry = omega (arith, b_lt);
+      no_entry =
+          omega arith;
+      no_start = λ e. other (omega (arith, e, own));
+    }
 
 -- the ticks of which the link of an arc is settled have no arrivals any more
 pub are_over : (w : Scenario) (t k b : ℕ) → b < length w.net.arcs → 1 ≤ k → AreOver w (link_turn (stage_at (length w.net.arcs) t k b)) (number (length w.net.arcs) t k)
@@ -120,12 +152,14 @@ module _ (w : Scenario) (t k n m d : ℕ) (p : Phase) (store store' store'' : St
         subst (λ j. LaneStands w ((h ++ es) ++ fs) n (stage_at A t j n) new (of_arc n (inside ++ next))) next_place
         (subst (LaneStands w ((h ++ es) ++ fs) n (stage_at A t (its_place w p + 1) n) new) mine now.stands) in
         let each : LanesStand w ((h ++ es) ++ fs) t (k + (n + 1)) (set mid n new) (inside ++ next) = λ a l at. elim (cases_eq a n) [
-          | inl is ↦ subst (λ (x : Lane). LaneStands w ((h ++ es) ++ fs) a (stage_at A t (k + (n + 1)) a) x (of_arc a (inside ++ next))) (set_found mid n new l (subst (λ j. slice_get (set mid n new) j ≡ Some l) is at))
+          | inl is ↦ subst (λ (x : Lane). LaneStands w ((h ++ es) ++ fs) a (stage_at A t (k + (n + 1)) a) x (of_arc a (inside ++ next)))
+              (set_found mid n new l (subst (λ j. slice_get (set mid n new) j ≡ Some l) is at))
               (subst (λ j. LaneStands w ((h ++ es) ++ fs) j (stage_at A t (k + (n + 1)) j) new (of_arc j (inside ++ next))) (sym is) its)
           | inr other ↦
               let there : slice_get mid a ≡ Some l = sym (set_elsewhere mid n a new other) ∙ at in
               let a_lt : a < A = omega (arith, within mid a l there, few) in
-              let others : of_arc a inside ≡ of_arc a (inside ++ next) = sym (of_arc-append a inside next ∙ (ap (λ xs. of_arc a inside ++ xs) (none_of a n other next part.here) ∙ append-nil (of_arc a inside))) in
+              let others : of_arc a inside ≡ of_arc a (inside ++ next) =
+              sym (of_arc-append a inside next ∙ (ap (λ xs. of_arc a inside ++ xs) (none_of a n other next part.here) ∙ append-nil (of_arc a inside))) in
               let off = apart_of A n a p place own other a_lt in
               let stage : stage_at A t (k + n) a ≡ stage_at A t (k + (n + 1)) a =
               ap (λ j. stage_at A t j a) (sym p_at) ∙ (sym (same_stage A t (its_place w p) a off.some off.no_expiry off.no_entry off.no_start) ∙ ap (λ j. stage_at A t j a) next_place) in
@@ -133,7 +167,8 @@ module _ (w : Scenario) (t k n m d : ℕ) (p : Phase) (store store' store'' : St
               subst (λ j. AreOver w (link_turn (stage_at A t j a)) (moment_of w t p)) p_at (are_over w t (its_place w p) a a_lt off.some) in
               subst (LaneStands w ((h ++ es) ++ fs) a (stage_at A t (k + (n + 1)) a) l) others
               (subst (λ s. LaneStands w ((h ++ es) ++ fs) a s l (of_arc a inside)) stage
-              (stays w t p (h ++ es) fs a a_lt place was.legal.0 now.happens off.no_end off.no_arrival off.no_expiry off.no_entry off.no_start (stage_at A t (k + n) a) l (of_arc a inside) over (first.1 a l there)))
+              (stays w t p (h ++ es) fs a a_lt place was.legal.0 now.happens off.no_end off.no_arrival off.no_expiry off.no_entry off.no_start (stage_at A t (k + n) a) l
+              (of_arc a inside) over (first.1 a l there)))
         ] in
         subst (λ g. LegalAt w t (k + (n + 1)) g × LanesStand w g t (k + (n + 1)) (set mid n new) (entries ++ (more ++ next))) (append_assoc h es fs)
         (subst (λ xs. LegalAt w t (k + (n + 1)) ((h ++ es) ++ fs) × LanesStand w ((h ++ es) ++ fs) t (k + (n + 1)) (set mid n new) xs) (append_assoc entries more next) (legal', each));

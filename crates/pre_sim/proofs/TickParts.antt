@@ -66,7 +66,8 @@ module _ (w : Scenario) (t : ℕ) where
         let done = first.legal h r.calls r.legal r.relay r.lanes (subst (λ n. AreSentBefore w n old.sent) sends_here r.sends) in
         (done.0, done.1, (done.2.0, done.2.1, subst (λ ls. LanesStand w (h ++ es) t (2 + 3 * A) ls (inside w.net w.streams done.2.0)) (sym is_c) done.2.2))
 
-    pub left : (new : Progress) (store : Store) → length e ≤ A → LanesPart w t (2 + 3 * A) A 0 store store c e [] fs → new.lanes.items ≡ e → new.relay ≡ mid.relay → new.sent ≡ mid.sent → new.set ≡ mid.set
+    pub left : (new : Progress) (store : Store) → length e ≤ A → LanesPart w t (2 + 3 * A) A 0 store store c e [] fs → new.lanes.items ≡ e → new.relay ≡ mid.relay → new.sent ≡ mid.sent
+        → new.set ≡ mid.set
         → new.dropped ≡ mid.dropped → new.delivered ≡ mid.delivered → Carries w t (1 + 3 * A) (t + 1) 0 old new (es ++ fs)
     left new store few second is_new relay sent set dropped delivered h r =
         let one = entered h r in
@@ -98,7 +99,8 @@ module _ (w : Scenario) (t : ℕ) where
     left_front front h r = let one = entered h r in subst (IsFront w) (append_assoc h es fs) (front (h ++ es) (inside w.net w.streams one.2.0) one.0 one.2.2)
 
   -- after the starts each frame keeps a slot of its own
-  pub left_kept : (mid new : Progress) (c e : List Lane) (fs : History) → c ≡ mid.lanes.items → LanesPart w t (2 + 3 * A) A 0 mid.store mid.store c e [] fs → new.lanes.items ≡ e → new.relay ≡ mid.relay → new.store ≡ mid.store
+  pub left_kept : (mid new : Progress) (c e : List Lane) (fs : History) → c ≡ mid.lanes.items → LanesPart w t (2 + 3 * A) A 0 mid.store mid.store c e [] fs → new.lanes.items ≡ e
+      → new.relay ≡ mid.relay → new.store ≡ mid.store
       → IsKept w t mid → IsKept w t new
   left_kept mid new c e fs is_c part is_new relay store kept =
       let entries = inside w.net w.streams kept.calls in
