@@ -1,20 +1,18 @@
 -- The part of an arc's ends.
-use Rattle.std.proofs.Common.{ℕ, suc, ◌≡◌, ◌+◌, ◌<◌, ◌≤◌, Bool, true, List, [], ◌∷◌, ◌++◌, length, refl, sym, ◌∙◌, ap, arith, subst, Option, Some, None}
-use Rattle.std.specs.Prelude.{slice_get, set, IsFalse, IsTrue, ◌↔◌}
+use Rattle.std.proofs.Common.{ℕ, suc, ◌≡◌, ◌+◌, ◌<◌, Bool, true, List, [], ◌∷◌, ◌++◌, length, refl, sym, ◌∙◌, ap, arith, subst, Option, Some, None}
+use Rattle.std.specs.Prelude.{IsTrue, ◌↔◌}
 use Rattle.std.specs.List.{AllByRecursion as Every}
 use Rattle.std.proofs.lemmas.List.{append-nil}
 use Rattle.std.proofs.lemmas.List.Elements.{filter_map-append}
-use Rattle.pre_base.specs.declared.limits.TheConstants.{LEAST_FRAME}
-use Rattle.pre_topo.specs.declared.arcs.Mode.TheVariants as mode
 use Rattle.pre_rings.specs.declared.slots.FrameRef.{FrameRef}
 use Rattle.pre_rings.specs.Stores.{HoldsFrame, IsOut}
 use Rattle.pre_send.specs.Endings.{plans_end}
 use Rattle.pre_send.specs.Owned.{frames_of, frames_done}
 use Rattle.pre_history.specs.Scenario.{Scenario, arc, FrameOf}
 use Rattle.pre_history.specs.History.{PlainEvent, Begin, Ended, History}
-use Rattle.pre_history.specs.Moments.{Phase, moments}
+use Rattle.pre_history.specs.Moments.{Phase}
 use Rattle.pre_history.specs.Placed.{number, moment_of}
-use Rattle.pre_history.specs.Selected.{begin_on, ended_on, arrive_on, entry_on}
+use Rattle.pre_history.specs.Selected.{begin_on, arrive_on, entry_on}
 use Rattle.pre_history.specs.Queries.{Begins, Ends, Arrivals, Entries}
 use Rattle.pre_history.specs.Octets.{WholeOf, SentOctets}
 use Rattle.pre_history.specs.Rules.{HappensIn}
@@ -22,7 +20,6 @@ use Rattle.pre_history.specs.Legal.{LegalUpTo, LegalBefore}
 use Rattle.pre_history.proofs.Moments.{ends_place}
 use Rattle.pre_history.proofs.Undamaged.{length-FrameOf}
 use Rattle.pre_bridge.specs.Inside.{Entry}
-use Rattle.pre_outgoing.specs.declared.outgoing.Outgoing.{Outgoing}
 use Rattle.pre_outgoing.specs.declared.outgoing.Finished.{Finished}
 use Rattle.pre_outgoing.specs.Sends.{Sends, Leaves, HasEnded, AreStored, AreHeld}
 use Rattle.pre_incoming.specs.declared.wires.OnWire.{OnWire}
@@ -37,10 +34,9 @@ use Rattle.pre_sim.specs.Ending.{IsLeaving, without}
 use Rattle.pre_sim.specs.Keeps.{Store, LaneKeeps, IsUnderWay, KeepsOn}
 use Rattle.pre_sim.specs.Stages.{set_up, stage_at}
 use Rattle.pre_sim.specs.Stands.{AreRings, AreInside, LaneStands}
-use Rattle.pre_sim.specs.Parts.{Before, After, LegalAt, IsFront, LanePart, LaneFront}
+use Rattle.pre_sim.specs.Parts.{Before, After, LegalAt, LanePart, LaneFront}
 use Rattle.pre_sim.proofs.Keeping.{keep_same, keep_lane, keep_ended}
 use Rattle.pre_sim.proofs.Lists.{every_weaker, within}
-use Rattle.pre_sim.proofs.NumberTests.{is_eq}
 use Rattle.pre_sim.proofs.Others.{same_rings}
 use Rattle.pre_sim.proofs.StageTests.{is_set_up}
 

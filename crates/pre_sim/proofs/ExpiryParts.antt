@@ -1,14 +1,13 @@
 -- The part of an arc's expiries.
-use Rattle.std.proofs.Common.{ℕ, suc, ◌≡◌, ◌≢◌, ◌+◌, ◌*◌, ◌<◌, ◌≤◌, Bool, true, List, [], ◌∷◌, ◌++◌, length, refl, sym, ◌∙◌, ap, arith, subst, inr, Option, Some, None}
-use Rattle.std.specs.Prelude.{count_by, ◌&&◌, nat_le, if◌then◌else◌}
+use Rattle.std.proofs.Common.{ℕ, suc, ◌≡◌, ◌≢◌, ◌+◌, ◌*◌, ◌<◌, Bool, true, List, [], ◌∷◌, ◌++◌, length, refl, sym, ◌∙◌, ap, arith, subst, inr, Option, Some, None}
+use Rattle.std.specs.Prelude.{count_by}
 use Rattle.std.specs.List.{AllByRecursion as Every}
 use Rattle.std.proofs.lemmas.List.{append-nil}
-use Rattle.std.proofs.lemmas.List.Elements.{filter_map-append}
 use Rattle.pre_topo.specs.Arcs.{reverse_of}
 use Rattle.pre_topo.specs.declared.arcs.Mode.TheVariants as mode
 use Rattle.pre_history.specs.Scenario.{Scenario, arc}
 use Rattle.pre_history.specs.History.{PlainEvent, History}
-use Rattle.pre_history.specs.Moments.{Phase, place_of}
+use Rattle.pre_history.specs.Moments.{Phase}
 use Rattle.pre_history.specs.Placed.{AllAt, AllWithin, IsAt, IsWithin, number, moment_of}
 use Rattle.pre_history.specs.Selected.{is_dropped}
 use Rattle.pre_history.specs.Queries.{Begins, Ends, Arrivals, Entries, Deliveries, SettingOf}
@@ -27,16 +26,15 @@ use Rattle.pre_outgoing.proofs.Keeping.{other_events}
 use Rattle.pre_incoming.specs.Wires.{Receives}
 use Rattle.pre_incoming.proofs.Goings.{elsewhere}
 use Rattle.pre_incoming.proofs.OnAir.{others_stay}
-use Rattle.pre_links.specs.declared.links.Link.{Link}
 use Rattle.pre_links.specs.declared.partners.Partner.{Partner}
 use Rattle.pre_links.specs.Listening.{Hears}
-use Rattle.pre_links.specs.Standing.{LinkStands, IsReady, IsUpTo, told}
+use Rattle.pre_links.specs.Standing.{LinkStands, told}
 use Rattle.pre_links.proofs.Phases.{still_hears}
 use Rattle.pre_sim.specs.declared.lanes.Lane.{Lane}
 use Rattle.pre_sim.specs.Keeps.{Store}
 use Rattle.pre_sim.specs.Stages.{set_up, settled, stage_at}
 use Rattle.pre_sim.specs.Stands.{AreRings, AreInside, LaneStands}
-use Rattle.pre_sim.specs.Parts.{Before, After, LegalAt, IsFront, IsOn, LanePart, LaneFront}
+use Rattle.pre_sim.specs.Parts.{Before, After, LegalAt, IsOn, LanePart, LaneFront}
 use Rattle.pre_sim.proofs.Keeping.{keep_lane}
 use Rattle.pre_sim.proofs.Lists.{every_weaker}
 use Rattle.pre_sim.proofs.Others.{same_rings, same_entries}

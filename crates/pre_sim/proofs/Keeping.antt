@@ -1,5 +1,5 @@
 -- Each frame keeps a slot of its own, as frames come and go.
-use Rattle.std.proofs.Common.{ℕ, zero, suc, ◌≡◌, ◌≢◌, ◌==◌, Bool, true, false, ◌+◌, ◌<◌, ◌≤◌, List, [], ◌∷◌, ◌++◌, length, map, drop, replicate, refl, sym, ◌∙◌, ap, arith, subst, Option, Some, None}
+use Rattle.std.proofs.Common.{ℕ, zero, suc, ◌≡◌, ◌≢◌, ◌==◌, Bool, true, false, ◌+◌, ◌<◌, ◌≤◌, List, [], ◌∷◌, ◌++◌, length, map, replicate, refl, sym, ◌∙◌, ap, arith, subst, Option, Some, None}
 use Rattle.std.specs.Prelude.{slice_get, slice_index_or, set}
 use Rattle.std.proofs.Math.ListN.{length-set}
 use Rattle.std.proofs.lemmas.List.Folds.{sum_by-replicate}
@@ -20,7 +20,7 @@ use Rattle.pre_sim.specs.Choices.{LeavesFirst}
 use Rattle.pre_sim.specs.Arriving.{IsStored, in_slot}
 use Rattle.pre_sim.specs.Keeps.{Store, IsFrameOf, GoesOver, Waits, IsUnderWay, IsKeptInside, LaneKeeps, Keeps, KeepsOn, among, of_lane, uses}
 use Rattle.pre_sim.specs.Sends.{KeepsCome}
-use Rattle.pre_sim.proofs.Lists.{every-append, every_at, headed, sum-set, sum-one, sum-none, set_here, set_elsewhere, set_same, set_cases}
+use Rattle.pre_sim.proofs.Lists.{every-append, sum-set, sum-one, sum-none, set_here, set_elsewhere, set_same, set_cases}
 use Rattle.pre_sim.proofs.Counts.{among-here, among-other, among-cons, among-append, first_elsewhere, each_elsewhere, none_among, among_ring, none_among_rings, among_with, rings_with}
 use Rattle.pre_sim.proofs.NumberTests.{same_number, other_number}
 

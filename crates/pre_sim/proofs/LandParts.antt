@@ -1,17 +1,15 @@
 -- What is set, ends, arrives and expires at a tick, one part after another.
-use Rattle.std.proofs.Common.{ℕ, ◌≡◌, ◌+◌, ◌*◌, ◌^◌, ◌-◌, ◌<◌, ◌≤◌, Bool, List, [], ◌++◌, length, refl, sym, ◌∙◌, ap, arith, subst, length-append, append_assoc}
+use Rattle.std.proofs.Common.{ℕ, ◌≡◌, ◌+◌, ◌*◌, ◌^◌, ◌-◌, ◌≤◌, Bool, List, [], ◌++◌, length, refl, sym, ◌∙◌, ap, arith, subst, length-append, append_assoc}
 use Rattle.std.specs.Prelude.{count_by, min, if◌then◌else◌}
 use Rattle.std.proofs.lemmas.List.{append-nil}
 use Rattle.std.proofs.lemmas.List.Elements.{filter_map-append}
 use Rattle.pre_history.specs.Scenario.{Scenario}
-use Rattle.pre_history.specs.Moments.{Phase}
 use Rattle.pre_history.specs.Placed.{number}
 use Rattle.pre_history.specs.History.{History}
 use Rattle.pre_history.specs.Selected.{delivery_of, is_dropped}
 use Rattle.pre_history.specs.Queries.{Deliveries}
 use Rattle.pre_history.specs.Deliveries.{DeliversOnce}
 use Rattle.pre_history.specs.Legal.{LegalBefore, FirstAliasAt}
-use Rattle.pre_bridge.specs.declared.relays.Relay.{Relay}
 use Rattle.pre_bridge.specs.Inside.{Entry, inside}
 use Rattle.pre_sim.specs.declared.lanes.Lane.{Lane}
 use Rattle.pre_sim.specs.declared.ticks.Progress.{Progress}

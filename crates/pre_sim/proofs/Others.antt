@@ -1,13 +1,11 @@
 -- What the events of a phase leave as it is: the lanes of the arcs that it isn't of.
-use Rattle.std.proofs.Common.{ℕ, zero, suc, ◌≡◌, ◌≢◌, ◌==◌, ◌+◌, ◌*◌, ◌<◌, ◌≤◌, Bool, true, false, List, [], ◌∷◌, ◌++◌, length, refl, sym, ◌∙◌, ap, inl, inr, arith}
-use Rattle.std.proofs.Common.{subst, Option, Some, None, filter_map, map, filter}
+use Rattle.std.proofs.Common.{ℕ, zero, suc, ◌≡◌, ◌≢◌, ◌==◌, ◌+◌, ◌*◌, ◌<◌, ◌≤◌, Bool, true, false, List, [], ◌++◌, length, refl, sym, ◌∙◌, ap, arith}
+use Rattle.std.proofs.Common.{subst, Some, None, map, filter}
 use Rattle.std.specs.Prelude.{◌&&◌, nat_le, not, if◌then◌else◌}
-use Rattle.std.specs.List.{list_any, AllByRecursion as Every}
-use Rattle.std.proofs.lemmas.Bool.{cases_lt}
+use Rattle.std.specs.List.{list_any}
 use Rattle.std.proofs.lemmas.List.{append-nil}
 use Rattle.std.proofs.lemmas.List.Elements.{filter_map-append}
-use Rattle.pre_topo.specs.declared.arcs.Mode.TheVariants as mode
-use Rattle.pre_history.specs.Scenario.{Scenario, arc, capacity}
+use Rattle.pre_history.specs.Scenario.{Scenario, capacity}
 use Rattle.pre_history.specs.History.{PlainEvent, Begin, History}
 use Rattle.pre_history.specs.Moments.{Phase, moments, place_of}
 use Rattle.pre_history.specs.Placed.{AllAt, AllWithin, HasPlace, IsAt, IsWithin, number, moment_of}
@@ -20,16 +18,15 @@ use Rattle.pre_history.proofs.Placing.{phase_events, same_place}
 use Rattle.pre_history.proofs.Stays.{told_same}
 use Rattle.pre_history.proofs.Turns.{same_begins, same_ends, same_arrivals}
 use Rattle.pre_bridge.specs.Inside.{Entry}
-use Rattle.pre_links.specs.Standing.{AreOver, LinkStands}
+use Rattle.pre_links.specs.Standing.{AreOver}
 use Rattle.pre_links.proofs.Phases.{place_within, still_hears, still_stands}
 use Rattle.pre_outgoing.proofs.Keeping.{other_events}
 use Rattle.pre_incoming.proofs.OnAir.{others_stay}
 use Rattle.pre_sim.specs.declared.lanes.Lane.{Lane}
-use Rattle.pre_sim.specs.Stages.{Stage, untouched, set_up, settled, entered, stage_at, setting_at, turn_at, is_calm, tick_at, link_turn}
+use Rattle.pre_sim.specs.Stages.{Stage, untouched, set_up, settled, entered, setting_at, turn_at, is_calm, tick_at, link_turn}
 use Rattle.pre_sim.specs.Stands.{has_begun, StillWaiting, AreApart, AreRings, AreInside, LaneStands}
 use Rattle.pre_sim.proofs.Lists.{every_weaker, none_selected}
-use Rattle.pre_sim.proofs.NumberTests.{is_eq, not_eq, same_number}
-use Rattle.pre_sim.proofs.StageTests.{same_stage}
+use Rattle.pre_sim.proofs.NumberTests.{same_number}
 
 -- ---- what waits is read off the begins and the entries
 

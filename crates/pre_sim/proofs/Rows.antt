@@ -1,5 +1,5 @@
 -- The parts of several arcs in a row.
-use Rattle.std.proofs.Common.{ℕ, ◌≡◌, ◌≢◌, ◌==◌, ◌+◌, ◌*◌, ◌<◌, ◌≤◌, false, List, [], ◌∷◌, ◌++◌, length, refl, sym, ◌∙◌, ap, inl, inr, arith, subst, Option, Some, None, filter_map, append_assoc}
+use Rattle.std.proofs.Common.{ℕ, ◌≡◌, ◌≢◌, ◌==◌, ◌+◌, ◌*◌, ◌<◌, ◌≤◌, List, [], ◌∷◌, ◌++◌, length, refl, sym, ◌∙◌, ap, inl, inr, arith, subst, Option, Some, append_assoc}
 use Rattle.std.specs.Prelude.{slice_get, set}
 use Rattle.std.specs.List.{AllByRecursion as Every}
 use Rattle.std.proofs.lemmas.Bool.{cases_eq, cases_lt}
@@ -8,7 +8,7 @@ use Rattle.std.proofs.lemmas.List.Elements.{filter_map-append, filter-append}
 use Rattle.std.proofs.Math.Nat.{add-zero}
 use Rattle.std.proofs.lemmas.Option.{slice_get_within as within}
 use Rattle.pre_history.specs.Scenario.{Scenario}
-use Rattle.pre_history.specs.History.{PlainEvent, History}
+use Rattle.pre_history.specs.History.{History}
 use Rattle.pre_history.specs.Moments.{Phase, place_of}
 use Rattle.pre_history.specs.Placed.{HasPlace, number, moment_of}
 use Rattle.pre_history.specs.Selected.{delivery_of, is_dropped}
@@ -19,7 +19,7 @@ use Rattle.pre_links.specs.Standing.{AreOver}
 use Rattle.pre_links.proofs.Early.{before, behind}
 use Rattle.pre_sim.specs.declared.lanes.Lane.{Lane}
 use Rattle.pre_sim.specs.Keeps.{Store, Keeps}
-use Rattle.pre_sim.specs.Stages.{Stage, stage_at, link_turn}
+use Rattle.pre_sim.specs.Stages.{stage_at, link_turn}
 use Rattle.pre_sim.specs.Parts.{Before, HearsOf, LegalAt, IsFront, LanePart, LaneFront, LanesPart, LanesFront, its_place}
 use Rattle.pre_sim.specs.Stands.{LaneStands, LanesStand}
 use Rattle.pre_sim.proofs.Lists.{count_by-append, set_found, set_elsewhere}

@@ -1,6 +1,6 @@
 -- The parts of a tick, one after another.
-use Rattle.std.proofs.Common.{ℕ, suc, ◌≡◌, ◌≢◌, ◌+◌, ◌*◌, ◌<◌, ◌≤◌, ◌==◌, Bool, true, false, List, [], ◌∷◌, ◌++◌, length, refl, sym, ◌∙◌, ap, arith, subst, Some, length-append, append_assoc}
-use Rattle.std.specs.Prelude.{count_by, nat_le, slice_get, if◌then◌else◌}
+use Rattle.std.proofs.Common.{ℕ, ◌≡◌, ◌+◌, ◌*◌, ◌<◌, ◌≤◌, Bool, List, [], ◌++◌, length, refl, sym, ◌∙◌, ap, arith, subst, length-append, append_assoc}
+use Rattle.std.specs.Prelude.{count_by, if◌then◌else◌}
 use Rattle.std.proofs.lemmas.List.{append-nil}
 use Rattle.std.proofs.lemmas.List.Elements.{filter_map-append}
 use Rattle.pre_history.specs.Scenario.{Scenario}
@@ -9,7 +9,7 @@ use Rattle.pre_history.specs.Placed.{number}
 use Rattle.pre_history.specs.History.{History}
 use Rattle.pre_history.specs.Selected.{delivery_of, is_dropped}
 use Rattle.pre_history.specs.Queries.{Deliveries}
-use Rattle.pre_history.specs.Legal.{LegalBefore, FirstAliasAt}
+use Rattle.pre_history.specs.Legal.{LegalBefore}
 use Rattle.pre_bridge.specs.declared.relays.Relay.{Relay}
 use Rattle.pre_bridge.specs.Inside.{Call, Entry, inside, of_arc}
 use Rattle.pre_bridge.specs.Relays.{Stands}
@@ -18,7 +18,7 @@ use Rattle.pre_sim.specs.declared.lanes.Lane.{Lane}
 use Rattle.pre_sim.specs.declared.ticks.Progress.{Progress}
 use Rattle.pre_sim.specs.Stages.{stage_at}
 use Rattle.pre_sim.specs.Stands.{LaneStands, LanesStand, AreSentBefore, AreSetBefore, Reaches, sets_turn, sends_turn}
-use Rattle.pre_sim.specs.Parts.{LegalAt, IsFront, LanesPart, LanesFront, EntriesPart, EntriesFront, Carries, CarriesFront, CarriesAlias}
+use Rattle.pre_sim.specs.Parts.{LegalAt, IsFront, LanesPart, LanesFront, EntriesPart, EntriesFront, Carries, CarriesFront}
 use Rattle.pre_sim.proofs.Lists.{count_by-append, within}
 use Rattle.pre_sim.proofs.NumberTests.{adds, is_le, not_eq}
 use Rattle.pre_sim.proofs.StageTests.{next_tick}

@@ -1,19 +1,16 @@
 -- What waits for an arc when its starts come: what its rings hold.
-use Rattle.std.proofs.Common.{ℕ, ◌≡◌, ◌≢◌, ◌==◌, ◌&&◌, ◌+◌, ◌*◌, ◌<◌, ◌≤◌, nat_lt, nat_le, not, Bool, List, [], ◌∷◌, length, refl, sym, ◌∙◌, ap, arith, subst, inl, inr}
-use Rattle.std.proofs.Common.{map, filter, Option, Some, None}
+use Rattle.std.proofs.Common.{ℕ, ◌≡◌, ◌≢◌, ◌+◌, ◌*◌, ◌<◌, ◌≤◌, List, [], ◌∷◌, length, refl, sym, ◌∙◌, ap, arith, subst, inl, inr}
+use Rattle.std.proofs.Common.{map, Option, Some, None}
 use Rattle.std.specs.Prelude.{IfSome, IfNone, is_some}
 use Rattle.std.specs.Bool.{Decides}
 use Rattle.std.proofs.lemmas.Bool.{false≢true}
-use Rattle.std.specs.List.{list_any, AllByRecursion as Every}
-use Rattle.std.proofs.Math.Path.{fun_ext}
-use Rattle.std.proofs.Math.Bool.{and-true}
 use Rattle.pre_mpacket.specs.declared.packets.Kind.TheVariants as kind
 use Rattle.pre_rings.specs.declared.slots.FrameRef.{FrameRef}
 use Rattle.pre_rings.specs.Ports.{Port, frames_at}
 use Rattle.pre_history.specs.Scenario.{Scenario, arc}
 use Rattle.pre_history.specs.History.{Begin, History}
-use Rattle.pre_history.specs.Selected.{RingEntry, what_is}
-use Rattle.pre_history.specs.Queries.{Begins, Entries, begun_before, Waiting}
+use Rattle.pre_history.specs.Selected.{RingEntry}
+use Rattle.pre_history.specs.Queries.{Begins, Entries, Waiting}
 use Rattle.pre_history.specs.Placed.{number}
 use Rattle.pre_history.specs.Starts.{Choice, Item, There, ExpressWaits, IsFront, whole_frame}
 use Rattle.pre_history.specs.Legal.{LegalUpTo}
@@ -21,7 +18,7 @@ use Rattle.pre_history.proofs.StartsDecided.{front_found}
 use Rattle.pre_links.proofs.Early.{begun_early}
 use Rattle.pre_outgoing.proofs.Stepping.{entered_by}
 use Rattle.pre_sim.specs.Choices.{NoneWaits, LeavesFirst}
-use Rattle.pre_sim.specs.Stands.{has_begun, StillWaiting, AreRings, ring_numbers}
+use Rattle.pre_sim.specs.Stands.{AreRings, ring_numbers}
 use Rattle.pre_sim.proofs.Lists.{every_placed}
 use Rattle.pre_sim.proofs.EntriesWaiting.{waits_still}
 

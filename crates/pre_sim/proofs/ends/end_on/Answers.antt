@@ -1,4 +1,4 @@
-use Rattle.std.proofs.Common.{rules, Some, refl, sym, ◌∙◌, ap, subst, ◌≡◌, ◌+◌, ◌*◌, ◌≤◌, length, [], ◌∷◌, ◌++◌, None}
+use Rattle.std.proofs.Common.{rules, Some, refl, sym, ap, ◌≡◌, ◌+◌, [], None}
 use Rattle.pre_history.specs.Moments.{Phase}
 use Rattle.pre_topo.specs.declared.arcs.Arc.{Arc}
 use Rattle.pre_send.specs.Endings.{plans_end}

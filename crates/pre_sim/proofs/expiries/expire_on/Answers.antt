@@ -1,8 +1,6 @@
-use Rattle.std.proofs.Common.{rules, ◌+◌, Bool, Some, None, Option, refl, sym, ◌∙◌, ap, subst, ◌≡◌, ◌≢◌, length, [], ◌∷◌, ◌++◌}
+use Rattle.std.proofs.Common.{rules, ◌+◌, Some, None, refl, sym, ◌∙◌, ap, subst, ◌≡◌, ◌≢◌, [], ◌++◌}
 use Rattle.pre_topo.specs.declared.arcs.Arc.{Arc}
-use Rattle.pre_topo.specs.declared.arcs.Mode.{Mode}
 use Rattle.pre_topo.specs.declared.arcs.Mode.TheVariants as mode
-use Rattle.pre_history.specs.History.{History}
 use Rattle.pre_history.specs.Moments.{Phase}
 use Rattle.pre_history.specs.Scenario.{Scenario, arc, no_arc}
 use Rattle.pre_history.specs.Rules.{HappensIn}

@@ -1,16 +1,14 @@
-use Rattle.std.proofs.Common.{rules, ℕ, ap, ◌∙◌, ◌≡◌, ◌+◌, ◌*◌, ◌<◌, ◌≤◌, ◌++◌, Some, sym, subst, length, [], arith, refl}
+use Rattle.std.proofs.Common.{rules, ap, ◌∙◌, ◌≡◌, ◌+◌, ◌*◌, ◌++◌, Some, sym, subst, length, [], arith, refl}
 use Rattle.std.specs.Prelude.{slice_get, slice_index_or}
 use Rattle.std.proofs.lemmas.List.{length-set}
 use Rattle.pre_topo.specs.Arcs.{reverse_of}
 use Rattle.pre_history.specs.Moments.{Phase}
 use Rattle.pre_history.specs.Scenario.{Scenario}
-use Rattle.pre_links.specs.Listening.{Hears}
 use Rattle.pre_links.specs.declared.partners.Partner.{Partner}
 use Rattle.pre_sim.specs.Keeps.{Store}
 use Rattle.pre_sim.specs.declared.lanes.Lane.{Lane}
 use Rattle.pre_sim.specs.Told.{tells_nothing, tells_then}
-use Rattle.pre_sim.specs.Parts.{LanePart, LaneFront, LanesPart, LanesFront, scenario_of}
-use Rattle.pre_sim.specs.Stands.{LanesStand}
+use Rattle.pre_sim.specs.Parts.{LanePart, LaneFront, LanesPart, scenario_of}
 use Rattle.pre_sim.proofs.Lists.{found_at}
 use Rattle.pre_sim.proofs.Readiness.{settled_set, all_settled}
 use Rattle.pre_sim.proofs.Rows.{lane_more, front_more, lanes_begin}

@@ -1,5 +1,5 @@
 use Rattle.std.proofs.Common.{rules, ◌≡◌, ◌++◌, []}
-use Rattle.pre_sim.specs.Parts.{TickFront, AdvanceFront, CarriesAlias, ClosesFront, NoArrival, scenario_of}
+use Rattle.pre_sim.specs.Parts.{TickFront, CarriesAlias, ClosesFront, scenario_of}
 use Rattle.pre_sim.proofs.TellParts.{then_early, then_front}
 use Rattle.pre_sim.specs.Told.{tells_nothing, tells_then}
 use Rattle.pre_sim.proofs.AdvanceParts.{front_of_tick, closes, closes_front}

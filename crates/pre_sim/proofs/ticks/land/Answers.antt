@@ -1,9 +1,6 @@
-use Rattle.std.proofs.Common.{rules, refl, sym, ◌∙◌, ◌≡◌, ◌+◌, ◌*◌, ◌++◌, List, length, [], subst, arith}
+use Rattle.std.proofs.Common.{rules, refl, sym, ◌∙◌, ◌≡◌, ◌+◌, ◌*◌, ◌++◌, length, [], subst, arith}
 use Rattle.std.proofs.lemmas.List.{take_at, append-nil}
-use Rattle.pre_history.specs.Scenario.{Scenario}
-use Rattle.pre_bridge.specs.declared.relays.Relay.{Relay}
 use Rattle.pre_bridge.specs.Inside.{inside}
-use Rattle.pre_sim.specs.declared.lanes.Lane.{Lane}
 use Rattle.pre_sim.specs.Keeps.{AreReady, AreSettled, TakesIn}
 use Rattle.pre_sim.specs.Parts.{LanesPart, LanesFront, SetsFront, ArrivalsAlias, scenario_of}
 use Rattle.pre_sim.specs.Told.{tells_nothing, tells_then}

@@ -1,8 +1,6 @@
-use Rattle.std.proofs.Common.{rules, refl, sym, subst, ◌+◌, ◌*◌, length, List, []}
+use Rattle.std.proofs.Common.{rules, refl, sym, subst, ◌+◌, ◌*◌, length, []}
 use Rattle.std.proofs.lemmas.List.{take_at}
-use Rattle.pre_bridge.specs.Inside.{inside}
-use Rattle.pre_sim.specs.declared.lanes.Lane.{Lane}
-use Rattle.pre_sim.specs.Keeps.{Keeps, AreSettled}
+use Rattle.pre_sim.specs.Keeps.{AreSettled}
 use Rattle.pre_sim.specs.Parts.{LanesFront, EntriesFront, scenario_of}
 use Rattle.pre_sim.proofs.TellParts.{then_front, then_part, on_ok, on_ok_of}
 use Rattle.pre_sim.specs.Told.{tells_nothing}

@@ -1,5 +1,5 @@
-use Rattle.std.proofs.Common.{rules, refl, ◌+◌, ◌*◌, length, []}
-use Rattle.pre_sim.specs.Parts.{NoArrival, CarriesFront, CarriesAlias, scenario_of}
+use Rattle.std.proofs.Common.{rules, ◌+◌, ◌*◌, length, []}
+use Rattle.pre_sim.specs.Parts.{CarriesFront, CarriesAlias, scenario_of}
 use Rattle.pre_sim.proofs.TellParts.{then_early, then_part, on_ok_weaker}
 use Rattle.pre_sim.specs.Told.{tells_nothing}
 use Rattle.pre_sim.proofs.Readiness.{ready_next}
