@@ -18,7 +18,8 @@ use Rattle.pre_links.specs.declared.partners.Partner.{Partner}
 use Rattle.pre_links.proofs.Elsewhere.{elsewhere}
 use Rattle.pre_links.proofs.Listened.{unheard_events}
 
-place_within : (arcs : ℕ) (p : Phase) → HasPlace arcs (place_of arcs p) p → place_of arcs p < moments arcs
+-- each place is one of the tick's moments
+pub place_within : (arcs : ℕ) (p : Phase) → HasPlace arcs (place_of arcs p) p → place_of arcs p < moments arcs
 place_within arcs Phase.sets place = omega arith
 place_within arcs (Phase.ends a) (lt, place) = omega (arith, lt)
 place_within arcs (Phase.arrivals a) (lt, place) = omega (arith, lt)

@@ -1,11 +1,11 @@
 -- The end of a run, behind its last tick.
-use Rattle.std.proofs.Common.{ℕ, ◌≡◌, ◌+◌, ◌++◌, sym, ap, inr, subst, append_assoc}
+use Rattle.std.proofs.Common.{ℕ, ◌≡◌, ◌+◌, ◌++◌, inr, subst, append_assoc}
 use Rattle.pre_history.specs.Scenario.{Scenario}
 use Rattle.pre_history.specs.History.{History}
 use Rattle.pre_history.specs.Legal.{Legal}
 use Rattle.pre_sim.specs.declared.ticks.Progress.{Progress}
 use Rattle.pre_sim.specs.Stands.{Reaches}
-use Rattle.pre_sim.specs.Parts.{TickPart, TickFront, ClosesPart, ClosesFront, AdvancePart, AdvanceFront, IsFrontOfLegal}
+use Rattle.pre_sim.specs.Parts.{TickPart, TickFront, ClosesPart, ClosesFront, AdvanceFront, IsFrontOfLegal}
 
 module _ (w : Scenario) (t : ℕ) (old : Progress) where
   pub front_of_tick : (es : History) → TickFront w t old es → AdvanceFront w t old es

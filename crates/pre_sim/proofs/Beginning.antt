@@ -1,19 +1,17 @@
 -- At the beginning nothing is told, and all lanes are idle.
-use Rattle.std.proofs.Common.{ℕ, Bool, zero, suc, ◌≡◌, ◌+◌, ◌*◌, ◌<◌, List, [], refl, sym, ◌∙◌, ap, arith, subst, length, Some}
-use Rattle.std.specs.Prelude.{◌≤◌, if◌then◌else◌, ◌∷◌, replicate, slice_get, slice_index_or, map, take, drop}
+use Rattle.std.proofs.Common.{ℕ, Bool, zero, suc, ◌≡◌, ◌+◌, ◌*◌, ◌<◌, List, [], refl, sym, ap, arith, subst, length}
+use Rattle.std.specs.Prelude.{◌≤◌, if◌then◌else◌, ◌∷◌, replicate, slice_index_or, map, take, drop}
 use Rattle.std.specs.List.{AllByRecursion as Every}
-use Rattle.pre_topo.specs.declared.arcs.Arc.{Arc}
 use Rattle.pre_script.specs.declared.scripts.SetLine.{SetLine}
 use Rattle.pre_rings.specs.declared.slots.FrameRef.{FrameRef}
-use Rattle.pre_history.specs.Scenario.{Scenario, arc, no_arc}
+use Rattle.pre_history.specs.Scenario.{Scenario, arc}
 use Rattle.pre_history.specs.Moments.{moments}
-use Rattle.pre_history.specs.Placed.{number}
 use Rattle.pre_history.specs.Legal.{LegalBefore}
 use Rattle.pre_bridge.specs.Relays.{Stands}
 use Rattle.pre_sim.specs.declared.lanes.Lane.{Lane}
 use Rattle.pre_sim.specs.Lanes.{IsIdle, AreIdle}
 use Rattle.pre_sim.specs.Stages.{untouched}
-use Rattle.pre_sim.specs.Stands.{AreRings, StillWaiting, LaneStands, Reaches, AreSentBefore, AreSetBefore, sends_turn}
+use Rattle.pre_sim.specs.Stands.{AreRings, StillWaiting, LaneStands, Reaches, AreSentBefore, sends_turn}
 use Rattle.pre_sim.specs.Keeps.{AreReady}
 use Rattle.pre_sim.specs.Views.{SimView, HasTold}
 use Rattle.pre_sim.proofs.NumberTests.{is_le}
@@ -61,7 +59,11 @@ reaches_nothing s next set sent delivered dropped idle stands =
       calls = [];
       relay = stands;
       lanes = λ a lane at. idle_stands s.run a lane (idle.each a lane at);
-      sets = record { within = omega (arith, set); past = subst (λ n. Every (λ l. l.tick.0 < 0) (take n s.run.script.sets)) (sym set) tt; later = always (λ (l : SetLine). 0 ≤ l.tick.0) (drop s.progress.set s.run.script.sets) (λ l. omega arith) };
+      sets = record {
+        within = omega (arith, set);
+        past = subst (λ n. Every (λ l. l.tick.0 < 0) (take n s.run.script.sets)) (sym set) tt;
+        later = always (λ (l : SetLine). 0 ≤ l.tick.0) (drop s.progress.set s.run.script.sets) (λ l. omega arith);
+      };
       sends = subst (λ n. AreSentBefore s.run n s.progress.sent) (sym (sends_first (length s.run.net.arcs))) (record {
         within = omega (arith, sent);
         past = λ k lt. absurd (omega (arith, lt, sent));

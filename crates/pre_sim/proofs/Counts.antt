@@ -47,17 +47,20 @@ among_ring s (fs ∷ rings) zero = omega (arith, sum_by-cons (among s) fs rings)
 among_ring s (fs ∷ rings) (suc p) = omega (arith, sum_by-cons (among s) fs rings, among_ring s rings p)
 
 -- where none is in the slot in each ring, none is in all of them
-pub none_among_rings : (P : ℕ → FrameRef → Type 0) (s : ℕ) (rings : List (List FrameRef)) → ((p : ℕ) (f : FrameRef) → P p f → f.slot ≢ s) → ((p : ℕ) → Every (P p) (slice_index_or rings p [])) → sum_by (among s) rings ≡ 0
+pub none_among_rings : (P : ℕ → FrameRef → Type 0) (s : ℕ) (rings : List (List FrameRef)) → ((p : ℕ) (f : FrameRef) → P p f → f.slot ≢ s)
+    → ((p : ℕ) → Every (P p) (slice_index_or rings p [])) → sum_by (among s) rings ≡ 0
 none_among_rings P s [] other all = refl
 none_among_rings P s (fs ∷ rings) other all =
     omega (arith, sum_by-cons (among s) fs rings, none_among (P zero) s fs (other zero) (all zero), none_among_rings (λ p. P (suc p)) s rings (λ p. other (suc p)) (λ p. all (suc p)))
 
 -- with other frames in one ring
-pub among_with : (s : ℕ) (rings : List (List FrameRef)) (p : ℕ) (fs : List FrameRef) → p < length rings → sum_by (among s) (set rings p fs) + among s (slice_index_or rings p []) ≡ sum_by (among s) rings + among s fs
+pub among_with : (s : ℕ) (rings : List (List FrameRef)) (p : ℕ) (fs : List FrameRef) → p < length rings
+    → sum_by (among s) (set rings p fs) + among s (slice_index_or rings p []) ≡ sum_by (among s) rings + among s fs
 among_with s rings p fs lt = sum_by-set (among s) rings p fs [] lt
 
 -- the frames of a ring, of rings with other frames in one
-pub rings_with : (P : ℕ → FrameRef → Type 0) (rings : List (List FrameRef)) (p : ℕ) (fs : List FrameRef) → ((q : ℕ) → Every (P q) (slice_index_or rings q [])) → Every (P p) fs → (q : ℕ) → Every (P q) (slice_index_or (set rings p fs) q [])
+pub rings_with : (P : ℕ → FrameRef → Type 0) (rings : List (List FrameRef)) (p : ℕ) (fs : List FrameRef) → ((q : ℕ) → Every (P q) (slice_index_or rings q [])) → Every (P p) fs → (q : ℕ)
+    → Every (P q) (slice_index_or (set rings p fs) q [])
 rings_with P [] p fs all here q = all q
 rings_with P (gs ∷ rings) zero fs all here zero = here
 rings_with P (gs ∷ rings) zero fs all here (suc q) = all (suc q)

@@ -1,20 +1,18 @@
 -- The part of an arc's ends.
-use Rattle.std.proofs.Common.{ℕ, suc, ◌≡◌, ◌+◌, ◌<◌, ◌≤◌, Bool, true, List, [], ◌∷◌, ◌++◌, length, refl, sym, ◌∙◌, ap, arith, subst, Option, Some, None}
-use Rattle.std.specs.Prelude.{slice_get, set, IsFalse, IsTrue, ◌↔◌}
+use Rattle.std.proofs.Common.{ℕ, suc, ◌≡◌, ◌+◌, ◌<◌, Bool, true, List, [], ◌∷◌, ◌++◌, length, refl, sym, ◌∙◌, ap, arith, subst, Option, Some, None}
+use Rattle.std.specs.Prelude.{IsTrue, ◌↔◌}
 use Rattle.std.specs.List.{AllByRecursion as Every}
 use Rattle.std.proofs.lemmas.List.{append-nil}
 use Rattle.std.proofs.lemmas.List.Elements.{filter_map-append}
-use Rattle.pre_base.specs.declared.limits.TheConstants.{LEAST_FRAME}
-use Rattle.pre_topo.specs.declared.arcs.Mode.TheVariants as mode
 use Rattle.pre_rings.specs.declared.slots.FrameRef.{FrameRef}
 use Rattle.pre_rings.specs.Stores.{HoldsFrame, IsOut}
 use Rattle.pre_send.specs.Endings.{plans_end}
 use Rattle.pre_send.specs.Owned.{frames_of, frames_done}
 use Rattle.pre_history.specs.Scenario.{Scenario, arc, FrameOf}
 use Rattle.pre_history.specs.History.{PlainEvent, Begin, Ended, History}
-use Rattle.pre_history.specs.Moments.{Phase, moments}
+use Rattle.pre_history.specs.Moments.{Phase}
 use Rattle.pre_history.specs.Placed.{number, moment_of}
-use Rattle.pre_history.specs.Selected.{begin_on, ended_on, arrive_on, entry_on}
+use Rattle.pre_history.specs.Selected.{begin_on, arrive_on, entry_on}
 use Rattle.pre_history.specs.Queries.{Begins, Ends, Arrivals, Entries}
 use Rattle.pre_history.specs.Octets.{WholeOf, SentOctets}
 use Rattle.pre_history.specs.Rules.{HappensIn}
@@ -22,7 +20,6 @@ use Rattle.pre_history.specs.Legal.{LegalUpTo, LegalBefore}
 use Rattle.pre_history.proofs.Moments.{ends_place}
 use Rattle.pre_history.proofs.Undamaged.{length-FrameOf}
 use Rattle.pre_bridge.specs.Inside.{Entry}
-use Rattle.pre_outgoing.specs.declared.outgoing.Outgoing.{Outgoing}
 use Rattle.pre_outgoing.specs.declared.outgoing.Finished.{Finished}
 use Rattle.pre_outgoing.specs.Sends.{Sends, Leaves, HasEnded, AreStored, AreHeld}
 use Rattle.pre_incoming.specs.declared.wires.OnWire.{OnWire}
@@ -37,10 +34,9 @@ use Rattle.pre_sim.specs.Ending.{IsLeaving, without}
 use Rattle.pre_sim.specs.Keeps.{Store, LaneKeeps, IsUnderWay, KeepsOn}
 use Rattle.pre_sim.specs.Stages.{set_up, stage_at}
 use Rattle.pre_sim.specs.Stands.{AreRings, AreInside, LaneStands}
-use Rattle.pre_sim.specs.Parts.{Before, After, LegalAt, IsFront, LanePart, LaneFront}
+use Rattle.pre_sim.specs.Parts.{Before, After, LegalAt, LanePart, LaneFront}
 use Rattle.pre_sim.proofs.Keeping.{keep_same, keep_lane, keep_ended}
 use Rattle.pre_sim.proofs.Lists.{every_weaker, within}
-use Rattle.pre_sim.proofs.NumberTests.{is_eq}
 use Rattle.pre_sim.proofs.Others.{same_rings}
 use Rattle.pre_sim.proofs.StageTests.{is_set_up}
 
@@ -81,7 +77,8 @@ module _ (w : Scenario) (t a : ℕ) (a_lt : a < length w.net.arcs) (old : Lane) 
       next : (A t a : ℕ) → suc (number A t (1 + a)) ≡ number A t (1 + a + 1)
       next A t a = omega arith
 
-  pub quiet_part : (store : Store) → ((h : History) → LegalUpTo w (number A t (1 + a)) h → Sends w h a t true old.outgoing → HappensIn w h t (Phase.ends a) []) → LanePart w t (Phase.ends a) a None old 0 store store old [] []
+  pub quiet_part : (store : Store) → ((h : History) → LegalUpTo w (number A t (1 + a)) h → Sends w h a t true old.outgoing → HappensIn w h t (Phase.ends a) [])
+      → LanePart w t (Phase.ends a) a None old 0 store store old [] []
   quiet_part store none = record {
     arc = tt;
     deliveries = refl;
@@ -104,10 +101,12 @@ module _ (w : Scenario) (t a : ℕ) (a_lt : a < length w.net.arcs) (old : Lane) 
 module _ (w : Scenario) (t a : ℕ) (a_lt : a < length w.net.arcs) (store : Store) (old new : Lane) (keeps : LaneKeeps w store a old) (l : Leaving) (f : Finished) (p : OnWire)
     (leaves : IsLeaving store old.outgoing l) (due : plans_end old.outgoing.sender ≡ Some t)
     (ends : (h : History) (e : Ended) → LegalUpTo w (number (length w.net.arcs) t (1 + a)) h → Sends w h a t true old.outgoing → AreStored w store (frames_of old.outgoing.sender)
-        → HappensIn w h t (Phase.ends a) (PlainEvent.ended e ∷ []) → HasEnded w h t a e f new.outgoing)
-    (pushed : (h : History) (e : Ended) → e.arc ≡ a → LegalUpTo w (moment_of w e.tick (Phase.ends a)) h → IsOnWire w h a p e → Receives w h a old.incoming → Receives w (h ++ PlainEvent.ended e ∷ []) a new.incoming)
-    (linked : (h : History) (e : Ended) → LegalUpTo w (moment_of w t (Phase.ends a)) h → LinkStands w h a t old.link → e.arc ≡ a → e.tick ≡ t → e.ord ≡ length (Ends h a) → length (Ends h a) < length (Begins h a)
-        → LinkStands w (h ++ PlainEvent.ended e ∷ []) a t new.link)
+    → HappensIn w h t (Phase.ends a) (PlainEvent.ended e ∷ []) → HasEnded w h t a e f new.outgoing)
+    (pushed : (h : History) (e : Ended) → e.arc ≡ a → LegalUpTo w (moment_of w e.tick (Phase.ends a)) h → IsOnWire w h a p e → Receives w h a old.incoming
+    → Receives w (h ++ PlainEvent.ended e ∷ []) a new.incoming)
+    (linked : (h : History) (e : Ended) → LegalUpTo w (moment_of w t (Phase.ends a)) h → LinkStands w h a t old.link → e.arc ≡ a → e.tick ≡ t → e.ord ≡ length (Ends h a)
+    → length (Ends h a) < length (Begins h a)
+    → LinkStands w (h ++ PlainEvent.ended e ∷ []) a t new.link)
     (ord : p.ord ≡ f.ord) (carries : p.what ≡ f.what) (is_last : p.is_last ≡ f.is_last) (kind : p.kind ≡ l.kind) (octets : p.octets.items ≡ l.octets.items) (its_due : p.due.0 ≡ t + (arc w a).delay)
     (rings : new.rings ≡ old.rings) (partner : new.partner ≡ old.partner) (setting : new.setting ≡ old.setting) where
   abbrev told : Ended
@@ -165,7 +164,8 @@ module _ (w : Scenario) (t a : ℕ) (a_lt : a < length w.net.arcs) (store : Stor
       rings = subst (AreRings w after a) (sym rings) (same_rings w h (PlainEvent.ended told ∷ []) a old begins entries stand.rings);
       outgoing = subst (λ e. Sends w (h ++ PlainEvent.ended e ∷ []) a t true new.outgoing) told_is ended.sends;
       incoming = subst (λ e. Receives w (h ++ PlainEvent.ended e ∷ []) a new.incoming) told_is (pushed h next refl b.legal.0 on_wire stand.incoming);
-      partner = subst (Hears w after a) (sym partner) (still_hears w t (Phase.ends a) h (PlainEvent.ended told ∷ []) a a_lt (a_lt, refl) b.legal.0 happens old.partner (omega (arith, a_lt)) stand.partner);
+      partner = subst (Hears w after a) (sym partner) (still_hears w t (Phase.ends a) h (PlainEvent.ended told ∷ []) a a_lt (a_lt, refl) b.legal.0 happens old.partner
+          (omega (arith, a_lt)) stand.partner);
       setting = setting ∙ stand.setting;
       link = λ negotiates. subst (λ e. LinkStands w (h ++ PlainEvent.ended e ∷ []) a t new.link) told_is
           (linked h next b.legal.0 (stand.link negotiates) refl refl refl (within (Begins h a) (length (Ends h a)) left.begin left.newest));
@@ -187,7 +187,8 @@ module _ (w : Scenario) (t a : ℕ) (a_lt : a < length w.net.arcs) (store : Stor
       go None same = keep_lane w a store old new rings (sym same)
       go (Some g) same = keep_ended w a store old new g rings same
 
-  pub ended_part : (store' : Store) → store' ≡ without store f.done → frames_of old.outgoing.sender ≡ frames_done f.done ++ frames_of new.outgoing.sender → LanePart w t (Phase.ends a) a None old 0 store store' new [] (PlainEvent.ended told ∷ [])
+  pub ended_part : (store' : Store) → store' ≡ without store f.done → frames_of old.outgoing.sender ≡ frames_done f.done ++ frames_of new.outgoing.sender
+      → LanePart w t (Phase.ends a) a None old 0 store store' new [] (PlainEvent.ended told ∷ [])
   ended_part store' is frames = record {
     arc = (refl, tt);
     deliveries = refl;
@@ -203,6 +204,7 @@ module _ (w : Scenario) (t a : ℕ) (a_lt : a < length w.net.arcs) (store : Stor
       (number (length w.net.arcs) t (1 + a + 1), [], subst (λ g. LegalAt w t (1 + a + 1) g) (sym (append-nil (h ++ PlainEvent.ended told ∷ []))) x.legal)
 
 -- a frame that has ended holds its slot
-pub done_is_out : (store : Store) (o : List FrameRef) (d : Option FrameRef) (rest : List FrameRef) → AreHeld store o → o ≡ frames_done d ++ rest → Every (λ (f : FrameRef). IsOut store f.slot) (frames_done d)
+pub done_is_out : (store : Store) (o : List FrameRef) (d : Option FrameRef) (rest : List FrameRef) → AreHeld store o → o ≡ frames_done d ++ rest
+    → Every (λ (f : FrameRef). IsOut store f.slot) (frames_done d)
 done_is_out store o None rest held is = tt
 done_is_out store o (Some f) rest held is = let first = (subst (AreHeld store) is held).0 in (rw first.1 refl, tt)

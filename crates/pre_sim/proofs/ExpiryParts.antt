@@ -1,14 +1,13 @@
 -- The part of an arc's expiries.
-use Rattle.std.proofs.Common.{ℕ, suc, ◌≡◌, ◌≢◌, ◌+◌, ◌*◌, ◌<◌, ◌≤◌, Bool, true, List, [], ◌∷◌, ◌++◌, length, refl, sym, ◌∙◌, ap, arith, subst, inr, Option, Some, None}
-use Rattle.std.specs.Prelude.{count_by, ◌&&◌, nat_le, if◌then◌else◌}
+use Rattle.std.proofs.Common.{ℕ, suc, ◌≡◌, ◌≢◌, ◌+◌, ◌*◌, ◌<◌, Bool, true, List, [], ◌∷◌, ◌++◌, length, refl, sym, ◌∙◌, ap, arith, subst, inr, Option, Some, None}
+use Rattle.std.specs.Prelude.{count_by}
 use Rattle.std.specs.List.{AllByRecursion as Every}
 use Rattle.std.proofs.lemmas.List.{append-nil}
-use Rattle.std.proofs.lemmas.List.Elements.{filter_map-append}
 use Rattle.pre_topo.specs.Arcs.{reverse_of}
 use Rattle.pre_topo.specs.declared.arcs.Mode.TheVariants as mode
 use Rattle.pre_history.specs.Scenario.{Scenario, arc}
 use Rattle.pre_history.specs.History.{PlainEvent, History}
-use Rattle.pre_history.specs.Moments.{Phase, place_of}
+use Rattle.pre_history.specs.Moments.{Phase}
 use Rattle.pre_history.specs.Placed.{AllAt, AllWithin, IsAt, IsWithin, number, moment_of}
 use Rattle.pre_history.specs.Selected.{is_dropped}
 use Rattle.pre_history.specs.Queries.{Begins, Ends, Arrivals, Entries, Deliveries, SettingOf}
@@ -27,16 +26,15 @@ use Rattle.pre_outgoing.proofs.Keeping.{other_events}
 use Rattle.pre_incoming.specs.Wires.{Receives}
 use Rattle.pre_incoming.proofs.Goings.{elsewhere}
 use Rattle.pre_incoming.proofs.OnAir.{others_stay}
-use Rattle.pre_links.specs.declared.links.Link.{Link}
 use Rattle.pre_links.specs.declared.partners.Partner.{Partner}
 use Rattle.pre_links.specs.Listening.{Hears}
-use Rattle.pre_links.specs.Standing.{LinkStands, IsReady, IsUpTo, told}
+use Rattle.pre_links.specs.Standing.{LinkStands, told}
 use Rattle.pre_links.proofs.Phases.{still_hears}
 use Rattle.pre_sim.specs.declared.lanes.Lane.{Lane}
 use Rattle.pre_sim.specs.Keeps.{Store}
 use Rattle.pre_sim.specs.Stages.{set_up, settled, stage_at}
 use Rattle.pre_sim.specs.Stands.{AreRings, AreInside, LaneStands}
-use Rattle.pre_sim.specs.Parts.{Before, After, LegalAt, IsFront, IsOn, LanePart, LaneFront}
+use Rattle.pre_sim.specs.Parts.{Before, After, LegalAt, IsOn, LanePart, LaneFront}
 use Rattle.pre_sim.proofs.Keeping.{keep_lane}
 use Rattle.pre_sim.proofs.Lists.{every_weaker}
 use Rattle.pre_sim.proofs.Others.{same_rings, same_entries}
@@ -49,10 +47,12 @@ told_earlier w h a t u (Some v) lt = told_later w h (PlainEvent.active t a v ∷
 
 module _ (w : Scenario) (t a : ℕ) (a_lt : a < length w.net.arcs) (partner : Partner) (old new : Lane) (o : Option Bool)
     (rings : new.rings ≡ old.rings) (outgoing : new.outgoing ≡ old.outgoing) (incoming : new.incoming ≡ old.incoming) (its_partner : new.partner ≡ old.partner) (setting : new.setting ≡ old.setting)
-    (happens : (h : History) → LegalUpTo w (moment_of w t (Phase.expiries a)) h → Hears w h (reverse_of a) partner → ((arc w a).mode ≡ mode.Negotiate → LinkStands w h a t old.link) → old.setting ≡ SettingOf w a t
-        → HappensIn w h t (Phase.expiries a) (told t a o))
-    (linked : (h : History) → LegalUpTo w (moment_of w t (Phase.expiries a)) h → Hears w h (reverse_of a) partner → (arc w a).mode ≡ mode.Negotiate → LinkStands w h a t old.link → old.setting ≡ SettingOf w a t
-        → LinkStands w (h ++ told t a o) a (t + 1) new.link) where
+    (happens : (h : History) → LegalUpTo w (moment_of w t (Phase.expiries a)) h → Hears w h (reverse_of a) partner → ((arc w a).mode ≡ mode.Negotiate → LinkStands w h a t old.link)
+    → old.setting ≡ SettingOf w a t
+    → HappensIn w h t (Phase.expiries a) (told t a o))
+    (linked : (h : History) → LegalUpTo w (moment_of w t (Phase.expiries a)) h → Hears w h (reverse_of a) partner → (arc w a).mode ≡ mode.Negotiate → LinkStands w h a t old.link
+    → old.setting ≡ SettingOf w a t
+    → LinkStands w (h ++ told t a o) a (t + 1) new.link) where
   abbrev A : ℕ
   A = length w.net.arcs
 
@@ -80,7 +80,8 @@ module _ (w : Scenario) (t a : ℕ) (a_lt : a < length w.net.arcs) (partner : Pa
     at = phase_events w h t (1 + 2 * A + a) (Phase.expiries a) es (a_lt, refl) now
 
     within : AllWithin A (moment_of w t (Phase.expiries a)) (suc (moment_of w t (Phase.expiries a))) es
-    within = every_weaker (IsAt A (moment_of w t (Phase.expiries a))) (IsWithin A (moment_of w t (Phase.expiries a)) (suc (moment_of w t (Phase.expiries a)))) (λ e here. (moment_of w t (Phase.expiries a), omega arith, omega arith, here)) es at
+    within = every_weaker (IsAt A (moment_of w t (Phase.expiries a))) (IsWithin A (moment_of w t (Phase.expiries a)) (suc (moment_of w t (Phase.expiries a))))
+        (λ e here. (moment_of w t (Phase.expiries a), omega arith, omega arith, here)) es at
 
     begins : Begins (h ++ es) a ≡ Begins h a
     begins = same_begins A t (1 + 2 * A + a) a (omega (arith, a_lt)) a_lt h es (omega (arith, a_lt)) at
@@ -99,7 +100,8 @@ module _ (w : Scenario) (t a : ℕ) (a_lt : a < length w.net.arcs) (partner : Pa
       rings = subst (AreRings w (h ++ es) a) (sym rings) (same_rings w h es a old begins entries stand.rings);
       outgoing = subst (Sends w (h ++ es) a t true) (sym outgoing) (other_events w h (h ++ es) a t true old.outgoing begins ends entries (λ u lt. told_earlier w h a t u o lt) stand.outgoing);
       incoming = subst (Receives w (h ++ es) a) (sym incoming) (others_stay w (moment_of w t (Phase.expiries a)) (suc (moment_of w t (Phase.expiries a))) h es b.legal.0 within a a_lt old.incoming
-          (same_ends A t (1 + 2 * A + a) a (omega (arith, a_lt)) a_lt [] es (omega (arith, a_lt)) at) (same_arrivals A t (1 + 2 * A + a) a (omega (arith, a_lt)) a_lt [] es (omega (arith, a_lt)) at) stand.incoming);
+          (same_ends A t (1 + 2 * A + a) a (omega (arith, a_lt)) a_lt [] es (omega (arith, a_lt)) at)
+          (same_arrivals A t (1 + 2 * A + a) a (omega (arith, a_lt)) a_lt [] es (omega (arith, a_lt)) at) stand.incoming);
       partner = subst (Hears w (h ++ es) a) (sym its_partner) (still_hears w t (Phase.expiries a) h es a a_lt (a_lt, refl) b.legal.0 now old.partner (omega (arith, a_lt)) stand.partner);
       setting = setting ∙ stand.setting;
       link = λ negotiates. linked h b.legal.0 b.hears negotiates (stand.link negotiates) stand.setting;

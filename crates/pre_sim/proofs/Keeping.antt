@@ -1,5 +1,5 @@
 -- Each frame keeps a slot of its own, as frames come and go.
-use Rattle.std.proofs.Common.{ℕ, zero, suc, ◌≡◌, ◌≢◌, ◌==◌, Bool, true, false, ◌+◌, ◌<◌, ◌≤◌, List, [], ◌∷◌, ◌++◌, length, map, drop, replicate, refl, sym, ◌∙◌, ap, arith, subst, Option, Some, None}
+use Rattle.std.proofs.Common.{ℕ, zero, suc, ◌≡◌, ◌≢◌, ◌==◌, Bool, true, false, ◌+◌, ◌<◌, ◌≤◌, List, [], ◌∷◌, ◌++◌, length, map, replicate, refl, sym, ◌∙◌, ap, arith, subst, Option, Some, None}
 use Rattle.std.specs.Prelude.{slice_get, slice_index_or, set}
 use Rattle.std.proofs.Math.ListN.{length-set}
 use Rattle.std.proofs.lemmas.List.Folds.{sum_by-replicate}
@@ -20,7 +20,7 @@ use Rattle.pre_sim.specs.Choices.{LeavesFirst}
 use Rattle.pre_sim.specs.Arriving.{IsStored, in_slot}
 use Rattle.pre_sim.specs.Keeps.{Store, IsFrameOf, GoesOver, Waits, IsUnderWay, IsKeptInside, LaneKeeps, Keeps, KeepsOn, among, of_lane, uses}
 use Rattle.pre_sim.specs.Sends.{KeepsCome}
-use Rattle.pre_sim.proofs.Lists.{every-append, every_at, headed, sum-set, sum-one, sum-none, set_here, set_elsewhere, set_same, set_cases}
+use Rattle.pre_sim.proofs.Lists.{every-append, sum-set, sum-one, sum-none, set_here, set_elsewhere, set_same, set_cases}
 use Rattle.pre_sim.proofs.Counts.{among-here, among-other, among-cons, among-append, first_elsewhere, each_elsewhere, none_among, among_ring, none_among_rings, among_with, rings_with}
 use Rattle.pre_sim.proofs.NumberTests.{same_number, other_number}
 
@@ -53,12 +53,14 @@ module _ (w : Scenario) where
   lane_stays store s a o lane none is = record {
     eight = is.eight;
     capacities = is.capacities;
-    waiting = λ p. each_elsewhere (Waits w store a p) (Waits w (set store s o) a p) s (frames_at lane.rings p) (waits_stays store s a p o) (omega (arith, among_ring s lane.rings.frames p, none)) (is.waiting p);
+    waiting = λ p. each_elsewhere (Waits w store a p) (Waits w (set store s o) a p) s (frames_at lane.rings p) (waits_stays store s a p o)
+        (omega (arith, among_ring s lane.rings.frames p, none)) (is.waiting p);
     sending = each_elsewhere (IsUnderWay w store a) (IsUnderWay w (set store s o) a) s (sent_by lane.outgoing.sender) (sending_stays store s a o) (omega (arith, none)) is.sending;
   }
 
   -- and all inside bridges
-  inside_stays : (store : Store) (s : ℕ) (o : Option (List ℕ)) (entries : List Entry) → among s (frames_of entries) ≡ 0 → Every (IsKeptInside w store) entries → Every (IsKeptInside w (set store s o)) entries
+  inside_stays : (store : Store) (s : ℕ) (o : Option (List ℕ)) (entries : List Entry) → among s (frames_of entries) ≡ 0 → Every (IsKeptInside w store) entries
+      → Every (IsKeptInside w (set store s o)) entries
   inside_stays store s o [] none all = tt
   inside_stays store s o (e ∷ entries) none (here, more) = (
     record { frame = frame_stays store s o e.frame (first_elsewhere s e.frame (frames_of entries) none) here.frame; onto = here.onto },
@@ -66,7 +68,8 @@ module _ (w : Scenario) where
   )
 
   -- all stays as it is where another slot changes
-  all_stays : (store : Store) (s : ℕ) (o : Option (List ℕ)) (lanes : List Lane) (entries : List Entry) (moving : List FrameRef) → uses lanes entries moving s ≡ 0 → Keeps w store lanes entries moving → Keeps w (set store s o) lanes entries moving
+  all_stays : (store : Store) (s : ℕ) (o : Option (List ℕ)) (lanes : List Lane) (entries : List Entry) (moving : List FrameRef) → uses lanes entries moving s ≡ 0
+      → Keeps w store lanes entries moving → Keeps w (set store s o) lanes entries moving
   all_stays store s o lanes entries moving none is = record {
     each_lane = λ a lane at. lane_stays store s a o lane (omega (arith, sum-one (of_lane s) lanes a lane at, none)) (is.each_lane a lane at);
     each_inside = inside_stays store s o entries (omega (arith, none)) is.each_inside;
@@ -85,7 +88,11 @@ module _ (w : Scenario) where
   -- none of a lane
   free_lane : (store : Store) (s a : ℕ) → slice_get store s ≡ Some None → (lane : Lane) → LaneKeeps w store a lane → of_lane s lane ≡ 0
   free_lane store s a free lane is =
-      omega (arith, none_among_rings (Waits w store a) s lane.rings.frames (λ p f waits. frame_elsewhere store s free f waits.frame) is.waiting, none_among (IsUnderWay w store a) s (sent_by lane.outgoing.sender) (λ f under. frame_elsewhere store s free f under.frame) is.sending)
+      omega (
+        arith,
+        none_among_rings (Waits w store a) s lane.rings.frames (λ p f waits. frame_elsewhere store s free f waits.frame) is.waiting,
+        none_among (IsUnderWay w store a) s (sent_by lane.outgoing.sender) (λ f under. frame_elsewhere store s free f under.frame) is.sending,
+      )
 
   -- none inside a bridge
   free_inside : (store : Store) (s : ℕ) → slice_get store s ≡ Some None → (entries : List Entry) → Every (IsKeptInside w store) entries → among s (frames_of entries) ≡ 0
@@ -93,19 +100,27 @@ module _ (w : Scenario) where
   free_inside store s free (e ∷ entries) (here, more) = among-other s e.frame (frames_of entries) (frame_elsewhere store s free e.frame here.frame) ∙ free_inside store s free entries more
 
   -- none at all
-  all_elsewhere : (store : Store) (s : ℕ) (lanes : List Lane) (entries : List Entry) (moving : List FrameRef) → slice_get store s ≡ Some None → Keeps w store lanes entries moving → uses lanes entries moving s ≡ 0
+  all_elsewhere : (store : Store) (s : ℕ) (lanes : List Lane) (entries : List Entry) (moving : List FrameRef) → slice_get store s ≡ Some None → Keeps w store lanes entries moving
+      → uses lanes entries moving s ≡ 0
   all_elsewhere store s lanes entries moving free is =
-      omega (arith, sum-none (of_lane s) lanes (λ a lane at. free_lane store s a free lane (is.each_lane a lane at)), free_inside store s free entries is.each_inside, none_among (IsFrameOf w store) s moving (frame_elsewhere store s free) is.each_moving)
+      omega (
+        arith,
+        sum-none (of_lane s) lanes (λ a lane at. free_lane store s a free lane (is.each_lane a lane at)),
+        free_inside store s free entries is.each_inside,
+        none_among (IsFrameOf w store) s moving (frame_elsewhere store s free) is.each_moving,
+      )
 
   -- ---- another lane at an arc
 
   -- how many stand in a slot then
   uses_with : (lanes : List Lane) (a : ℕ) (old new : Lane) (entries entries' : List Entry) (moving moving' : List FrameRef) (s : ℕ) → slice_get lanes a ≡ Some old
-      → uses (set lanes a new) entries' moving' s + (of_lane s old + among s (frames_of entries) + among s moving) ≡ uses lanes entries moving s + (of_lane s new + among s (frames_of entries') + among s moving')
+      → uses (set lanes a new) entries' moving' s + (of_lane s old + among s (frames_of entries) + among s moving) ≡ uses lanes entries moving s +
+      (of_lane s new + among s (frames_of entries') + among s moving')
   uses_with lanes a old new entries entries' moving moving' s at = omega (arith, sum-set (of_lane s) lanes a old new at)
 
   -- where no more frames stand in any slot
-  all_with : (store : Store) (lanes : List Lane) (a : ℕ) (old new : Lane) (entries : List Entry) (moving moving' : List FrameRef) → slice_get lanes a ≡ Some old → LaneKeeps w store a new → Every (IsFrameOf w store) moving'
+  all_with : (store : Store) (lanes : List Lane) (a : ℕ) (old new : Lane) (entries : List Entry) (moving moving' : List FrameRef) → slice_get lanes a ≡ Some old
+      → LaneKeeps w store a new → Every (IsFrameOf w store) moving'
       → ((s : ℕ) → of_lane s new + among s moving' ≤ of_lane s old + among s moving) → Keeps w store lanes entries moving → Keeps w store (set lanes a new) entries moving'
   all_with store lanes a old new entries moving moving' at lane moves less is = record {
     each_lane = set_cases (LaneKeeps w store) lanes a new is.each_lane lane;
@@ -121,7 +136,8 @@ module _ (w : Scenario) where
   -- ---- what a lane keeps
 
   -- with other frames in one ring
-  lane_ring : (store : Store) (a p : ℕ) (fs : List FrameRef) (old new : Lane) → new.rings ≡ with_frames old.rings p fs → Every (Waits w store a p) fs → Every (IsUnderWay w store a) (sent_by new.outgoing.sender) → LaneKeeps w store a old → LaneKeeps w store a new
+  lane_ring : (store : Store) (a p : ℕ) (fs : List FrameRef) (old new : Lane) → new.rings ≡ with_frames old.rings p fs → Every (Waits w store a p) fs
+      → Every (IsUnderWay w store a) (sent_by new.outgoing.sender) → LaneKeeps w store a old → LaneKeeps w store a new
   lane_ring store a p fs old new rings waits sends was =
       let same = sym rings in
       let long : length (set old.rings.frames p fs) ≡ 8 = length-set old.rings.frames p fs ∙ was.eight.0 in
@@ -144,7 +160,8 @@ module _ (w : Scenario) where
       }
 
   -- what stands there, by what it has
-  lane_has : (s : ℕ) (lane : Lane) (rings : Port) (sending : List FrameRef) → lane.rings ≡ rings → sent_by lane.outgoing.sender ≡ sending → of_lane s lane ≡ sum_by (among s) rings.frames + among s sending
+  lane_has : (s : ℕ) (lane : Lane) (rings : Port) (sending : List FrameRef) → lane.rings ≡ rings → sent_by lane.outgoing.sender ≡ sending
+      → of_lane s lane ≡ sum_by (among s) rings.frames + among s sending
   lane_has s lane rings sending has sends = ap (λ (r : Port). sum_by (among s) r.frames + among s (sent_by lane.outgoing.sender)) has ∙ ap (λ fs. sum_by (among s) rings.frames + among s fs) sends
 
   -- a frame of the script, in a slot that was in
@@ -173,7 +190,8 @@ module _ (w : Scenario) where
       go false e = omega (arith, among-other s f [] (other_number f.slot s e), few)
 
   -- inside a bridge
-  one_inside : (store : Store) (lanes : List Lane) (entries : List Entry) (e : Entry) → IsKeptInside w store e → uses lanes entries [] e.frame.slot ≡ 0 → Keeps w store lanes entries [] → Keeps w store lanes (entries ++ e ∷ []) []
+  one_inside : (store : Store) (lanes : List Lane) (entries : List Entry) (e : Entry) → IsKeptInside w store e → uses lanes entries [] e.frame.slot ≡ 0 → Keeps w store lanes entries []
+      → Keeps w store lanes (entries ++ e ∷ []) []
   one_inside store lanes entries e right free is = record {
     each_lane = is.each_lane;
     each_inside = every-append (IsKeptInside w store) entries (e ∷ []) is.each_inside (right, tt);
@@ -182,7 +200,8 @@ module _ (w : Scenario) where
   }
 
   -- on its way
-  one_moving : (store : Store) (lanes : List Lane) (entries : List Entry) (f : FrameRef) → IsFrameOf w store f → uses lanes entries [] f.slot ≡ 0 → Keeps w store lanes entries [] → Keeps w store lanes entries (f ∷ [])
+  one_moving : (store : Store) (lanes : List Lane) (entries : List Entry) (f : FrameRef) → IsFrameOf w store f → uses lanes entries [] f.slot ≡ 0 → Keeps w store lanes entries []
+      → Keeps w store lanes entries (f ∷ [])
   one_moving store lanes entries f right free is = record {
     each_lane = is.each_lane;
     each_inside = is.each_inside;
@@ -191,7 +210,8 @@ module _ (w : Scenario) where
   }
 
   -- octets come into a slot that was in
-  into_slot : (store store' : Store) (octets : List ℕ) (slot : ℕ) (lanes : List Lane) (entries : List Entry) → IsStored store octets slot store' → Keeps w store lanes entries [] → Keeps w store' lanes entries []
+  into_slot : (store store' : Store) (octets : List ℕ) (slot : ℕ) (lanes : List Lane) (entries : List Entry) → IsStored store octets slot store' → Keeps w store lanes entries []
+      → Keeps w store' lanes entries []
   into_slot store store' octets slot lanes entries stored is =
       subst (λ k. Keeps w k lanes entries []) (sym stored.1) (all_stays store slot (Some octets) lanes entries [] (all_elsewhere store slot lanes entries [] stored.0 is) is)
 
@@ -237,7 +257,8 @@ module _ (w : Scenario) where
       (all_with store lanes a old new entries [] [] at lane tt (λ n. omega (arith, lane_has n new old.rings (sent_by old.outgoing.sender) rings sends)) is)
 
   -- an mPacket ended a frame, whose slot is in again
-  pub keep_ended : (a : ℕ) (store : Store) (old new : Lane) (f : FrameRef) → new.rings ≡ old.rings → sent_by old.outgoing.sender ≡ f ∷ sent_by new.outgoing.sender → KeepsOn w a store (set store f.slot None) old new []
+  pub keep_ended : (a : ℕ) (store : Store) (old new : Lane) (f : FrameRef) → new.rings ≡ old.rings → sent_by old.outgoing.sender ≡ f ∷ sent_by new.outgoing.sender
+      → KeepsOn w a store (set store f.slot None) old new []
   keep_ended a store old new f rings sends =
       λ lanes entries at is.
       let was = is.each_lane a old at in
@@ -247,11 +268,19 @@ module _ (w : Scenario) where
       let counts : (n : ℕ) → of_lane n old ≡ sum_by (among n) old.rings.frames + (among n (f ∷ []) + among n (sent_by new.outgoing.sender))
       = λ n. lane_has n old old.rings (f ∷ sent_by new.outgoing.sender) refl sends ∙ ap (λ m. sum_by (among n) old.rings.frames + m) (among-cons n f (sent_by new.outgoing.sender)) in
       let kept = all_with store lanes a old new entries [] [] at lane tt (λ n. omega (arith, lane_has n new old.rings (sent_by new.outgoing.sender) rings refl, counts n)) is in
-      let free : uses (set lanes a new) entries [] k ≡ 0 = omega (arith, uses_with lanes a old new entries entries [] [] k at, is.once k, lane_has k new old.rings (sent_by new.outgoing.sender) rings refl, counts k, among-here k f [] refl) in
+      let free : uses (set lanes a new) entries [] k ≡ 0 = omega (
+        arith,
+        uses_with lanes a old new entries entries [] [] k at,
+        is.once k,
+        lane_has k new old.rings (sent_by new.outgoing.sender) rings refl,
+        counts k,
+        among-here k f [] refl,
+      ) in
       no_more (set store k None) (set lanes a new) entries (all_stays store k None (set lanes a new) entries [] free kept)
 
   -- a frame that waited begins
-  pub keep_started : (a least greatest : ℕ) (store : Store) (old new : Lane) (f : FrameRef) → greatest ≤ 7 → LeavesFirst least greatest old.rings new.rings f → sent_by new.outgoing.sender ≡ f ∷ sent_by old.outgoing.sender → KeepsOn w a store store old new []
+  pub keep_started : (a least greatest : ℕ) (store : Store) (old new : Lane) (f : FrameRef) → greatest ≤ 7 → LeavesFirst least greatest old.rings new.rings f
+      → sent_by new.outgoing.sender ≡ f ∷ sent_by old.outgoing.sender → KeepsOn w a store store old new []
   keep_started a least greatest store old new f few leaves sends =
       λ lanes entries at is.
       let was = is.each_lane a old at in
@@ -262,7 +291,15 @@ module _ (w : Scenario) where
       let below : p < length old.rings.frames = omega (arith, leaves.most, few, was.eight.0) in
       no_more store (set lanes a new) entries
       (all_with store lanes a old new entries [] [] at lane tt
-      (λ n. omega (arith, lane_has n new _ (f ∷ sent_by old.outgoing.sender) leaves.left sends, among-cons n f (sent_by old.outgoing.sender), lane_has n old old.rings (sent_by old.outgoing.sender) refl refl, among_with n old.rings.frames p leaves.behind below, ap (among n) leaves.front, among-cons n f leaves.behind))
+      (λ n. omega (
+        arith,
+        lane_has n new _ (f ∷ sent_by old.outgoing.sender) leaves.left sends,
+        among-cons n f (sent_by old.outgoing.sender),
+        lane_has n old old.rings (sent_by old.outgoing.sender) refl refl,
+        among_with n old.rings.frames p leaves.behind below,
+        ap (among n) leaves.front,
+        among-cons n f leaves.behind,
+      ))
       is)
 
   -- a frame arrived and goes on: it is inside the bridge, in a slot that was in
@@ -279,11 +316,13 @@ module _ (w : Scenario) where
         frame = subst (λ k. IsFrameOf w k e.frame) (sym stored.1) (subst (IsFrameOf w (set store slot (Some (FrameOf w f.0)))) (sym its) (from_script slot f store stored.0 known long));
         onto = subst (λ (g : FrameRef). GoesOver w g.frame e.next.0) (sym its) onto;
       } in
-      let free : uses (set lanes a new) entries [] e.frame.slot ≡ 0 = subst (λ (g : FrameRef). uses (set lanes a new) entries [] g.slot ≡ 0) (sym its) (all_elsewhere store slot (set lanes a new) entries [] stored.0 off) in
+      let free : uses (set lanes a new) entries [] e.frame.slot ≡ 0 = subst (λ (g : FrameRef). uses (set lanes a new) entries [] g.slot ≡ 0) (sym its)
+      (all_elsewhere store slot (set lanes a new) entries [] stored.0 off) in
       one_inside store' (set lanes a new) entries e right free kept
 
   -- a frame enters its ring
-  pub keep_entered : (a : ℕ) (f : FrameRef) (store : Store) (lanes : List Lane) (old new : Lane) → slice_get lanes a ≡ Some old → GoesOver w f.frame a → f.prio < 8 → new.rings ≡ with_frames old.rings f.prio (frames_at old.rings f.prio ++ f ∷ [])
+  pub keep_entered : (a : ℕ) (f : FrameRef) (store : Store) (lanes : List Lane) (old new : Lane) → slice_get lanes a ≡ Some old → GoesOver w f.frame a → f.prio < 8
+      → new.rings ≡ with_frames old.rings f.prio (frames_at old.rings f.prio ++ f ∷ [])
       → new.outgoing ≡ old.outgoing → KeepsCome w store store lanes (set lanes a new) f
   keep_entered a f store lanes old new here over below rings sending =
       λ entries is.
@@ -295,7 +334,12 @@ module _ (w : Scenario) where
       let lane = lane_ring store a p (frames_at old.rings p ++ f ∷ []) old new rings all (subst (Every (IsUnderWay w store a)) (sym sends) was.sending) was in
       let within : p < length old.rings.frames = omega (arith, below, was.eight.0) in
       all_with store lanes a old new entries (f ∷ []) [] here lane tt
-      (λ n. omega (arith, lane_has n new _ (sent_by old.outgoing.sender) rings sends, among_with n old.rings.frames p (frames_at old.rings p ++ f ∷ []) within, among-append n (frames_at old.rings p) (f ∷ [])))
+      (λ n. omega (
+        arith,
+        lane_has n new _ (sent_by old.outgoing.sender) rings sends,
+        among_with n old.rings.frames p (frames_at old.rings p ++ f ∷ []) within,
+        among-append n (frames_at old.rings p) (f ∷ []),
+      ))
       is
 
   -- a frame is dropped, and its slot is in again
@@ -308,16 +352,24 @@ module _ (w : Scenario) where
       let sends : sent_by new.outgoing.sender ≡ sent_by old.outgoing.sender = ap (λ (o : Outgoing). sent_by o.sender) sending in
       let lane = lane_same store a old new rings (subst (Every (IsUnderWay w store a)) (sym sends) was.sending) was in
       let kept = all_with store lanes a old new entries (f ∷ []) [] here lane tt (λ n. omega (arith, lane_has n new old.rings (sent_by old.outgoing.sender) rings sends)) is in
-      let free : uses (set lanes a new) entries [] k ≡ 0 = omega (arith, uses_with lanes a old new entries entries (f ∷ []) [] k here, is.once k, lane_has k new old.rings (sent_by old.outgoing.sender) rings sends, among-here k f [] refl) in
+      let free : uses (set lanes a new) entries [] k ≡ 0 = omega (
+        arith,
+        uses_with lanes a old new entries entries (f ∷ []) [] k here,
+        is.once k,
+        lane_has k new old.rings (sent_by old.outgoing.sender) rings sends,
+        among-here k f [] refl,
+      ) in
       all_stays store k None (set lanes a new) entries [] free kept
 
   -- a frame is sent: it is on its way to its ring
-  pub keep_sent : (f : FrameRef) (octets : List ℕ) (store store' : Store) (lanes : List Lane) (entries : List Entry) → IsFrameOf w store' f → IsStored store octets f.slot store' → Keeps w store lanes entries [] → Keeps w store' lanes entries (f ∷ [])
+  pub keep_sent : (f : FrameRef) (octets : List ℕ) (store store' : Store) (lanes : List Lane) (entries : List Entry) → IsFrameOf w store' f → IsStored store octets f.slot store'
+      → Keeps w store lanes entries [] → Keeps w store' lanes entries (f ∷ [])
   keep_sent f octets store store' lanes entries right is keeps =
       one_moving store' lanes entries f right (all_elsewhere store f.slot lanes entries [] is.0 keeps) (into_slot store store' octets f.slot lanes entries is keeps)
 
   -- a frame leaves a bridge: it is on its way to its ring
-  pub keep_taken : (store : Store) (lanes : List Lane) (before behind : List Entry) (e : Entry) → Keeps w store lanes (before ++ e ∷ behind) [] → Keeps w store lanes (before ++ behind) (e.frame ∷ []) × GoesOver w e.frame.frame e.next.0
+  pub keep_taken : (store : Store) (lanes : List Lane) (before behind : List Entry) (e : Entry) → Keeps w store lanes (before ++ e ∷ behind) []
+      → Keeps w store lanes (before ++ behind) (e.frame ∷ []) × GoesOver w e.frame.frame e.next.0
   keep_taken store lanes before behind e keeps =
       let all = taken_out (IsKeptInside w store) before behind e keeps.each_inside in (
         record {

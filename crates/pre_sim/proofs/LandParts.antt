@@ -1,17 +1,15 @@
 -- What is set, ends, arrives and expires at a tick, one part after another.
-use Rattle.std.proofs.Common.{ℕ, ◌≡◌, ◌+◌, ◌*◌, ◌^◌, ◌-◌, ◌<◌, ◌≤◌, Bool, List, [], ◌++◌, length, refl, sym, ◌∙◌, ap, arith, subst, length-append, append_assoc}
+use Rattle.std.proofs.Common.{ℕ, ◌≡◌, ◌+◌, ◌*◌, ◌^◌, ◌-◌, ◌≤◌, Bool, List, [], ◌++◌, length, refl, sym, ◌∙◌, ap, arith, subst, length-append, append_assoc}
 use Rattle.std.specs.Prelude.{count_by, min, if◌then◌else◌}
 use Rattle.std.proofs.lemmas.List.{append-nil}
 use Rattle.std.proofs.lemmas.List.Elements.{filter_map-append}
 use Rattle.pre_history.specs.Scenario.{Scenario}
-use Rattle.pre_history.specs.Moments.{Phase}
 use Rattle.pre_history.specs.Placed.{number}
 use Rattle.pre_history.specs.History.{History}
 use Rattle.pre_history.specs.Selected.{delivery_of, is_dropped}
 use Rattle.pre_history.specs.Queries.{Deliveries}
 use Rattle.pre_history.specs.Deliveries.{DeliversOnce}
 use Rattle.pre_history.specs.Legal.{LegalBefore, FirstAliasAt}
-use Rattle.pre_bridge.specs.declared.relays.Relay.{Relay}
 use Rattle.pre_bridge.specs.Inside.{Entry, inside}
 use Rattle.pre_sim.specs.declared.lanes.Lane.{Lane}
 use Rattle.pre_sim.specs.declared.ticks.Progress.{Progress}
@@ -49,7 +47,8 @@ module _ (w : Scenario) (t : ℕ) (old : Progress) where
     legal = λ h entries legal stand sets.
         let one = part.legal h entries legal stand sets in
         (one.0, subst (LanesStand w (h ++ es) t 1 new.lanes.items) (sym (append-nil entries)) one.1, one.2);
-    keeps = λ entries keeps. subst (λ xs. Keeps w new.store new.lanes.items xs []) (sym (append-nil entries)) (subst (λ s. Keeps w s new.lanes.items entries []) (sym part.kept.1) (part.keeps entries keeps));
+    keeps = λ entries keeps. subst (λ xs. Keeps w new.store new.lanes.items xs []) (sym (append-nil entries))
+        (subst (λ s. Keeps w s new.lanes.items entries []) (sym part.kept.1) (part.keeps entries keeps));
   }
 
   pub sets_front : (es : History) → SetsFront w t old es → CarriesFront w t 0 old es
@@ -64,7 +63,8 @@ module _ (w : Scenario) (t : ℕ) (old : Progress) where
         (one.0, subst (λ ls. LanesStand w (h ++ es) t k ls (entries ++ more)) (sym is) one.1)
 
     -- the parts of the arcs at the next phase
-    pub lead_on : (n d' : ℕ) (store' : Store) (to : List Lane) (next : List Entry) (fs : History) → LanesPart w t k n d' store store' from to next fs → Leads (k + n) set store' to (more ++ next) (d + d') (es ++ fs)
+    pub lead_on : (n d' : ℕ) (store' : Store) (to : List Lane) (next : List Entry) (fs : History) → LanesPart w t k n d' store store' from to next fs
+        → Leads (k + n) set store' to (more ++ next) (d + d') (es ++ fs)
     lead_on n d' store' to next fs part = record {
       deliveries = ap length (filter_map-append delivery_of es fs) ∙ (length-append (Deliveries es) (Deliveries fs) ∙ adds so_far.deliveries part.deliveries);
       drops = count_by-append is_dropped es fs ∙ adds so_far.drops part.drops;
@@ -75,7 +75,8 @@ module _ (w : Scenario) (t : ℕ) (old : Progress) where
             subst (LanesStand w (h ++ (es ++ fs)) t (k + n) to) (append_assoc entries more next) (subst (λ g. LanesStand w g t (k + n) to ((entries ++ more) ++ next)) (append_assoc h es fs) two.1),
             one.2,
           );
-      keeps = λ entries keeps. subst (λ xs. Keeps w store' to xs []) (append_assoc entries more next) (part.keeps (entries ++ more) (subst (λ ls. Keeps w store ls (entries ++ more) []) (sym is) (so_far.keeps entries keeps)));
+      keeps = λ entries keeps. subst (λ xs. Keeps w store' to xs []) (append_assoc entries more next)
+          (part.keeps (entries ++ more) (subst (λ ls. Keeps w store ls (entries ++ more) []) (sym is) (so_far.keeps entries keeps)));
     }
 
     pub lead_front : (fs : History) → LanesFront w t k from fs → CarriesFront w t 0 old (es ++ fs)
@@ -86,7 +87,8 @@ module _ (w : Scenario) (t : ℕ) (old : Progress) where
         let one = led h r in
         let place : k ≡ 1 + A + 0 = omega (arith, is_k) in
         subst (λ g. FirstAliasAt w g t a i) (append_assoc h es fs)
-        (alias (h ++ es) (inside w.net w.streams r.calls ++ more) (subst (λ m. LegalAt w t m (h ++ es)) place one.0) (subst (λ m. LanesStand w (h ++ es) t m from (inside w.net w.streams r.calls ++ more)) place one.1))
+        (alias (h ++ es) (inside w.net w.streams r.calls ++ more) (subst (λ m. LegalAt w t m (h ++ es)) place one.0)
+        (subst (λ m. LanesStand w (h ++ es) t m from (inside w.net w.streams r.calls ++ more)) place one.1))
 
     pub lead_reached : IsReached w t 0 old → LanesReached w t k from
     lead_reached reached = let one = led reached.0 reached.1 in (reached.0 ++ es, inside w.net w.streams reached.1.calls ++ more, one.0, one.1)
@@ -105,15 +107,19 @@ module _ (w : Scenario) (t : ℕ) (old : Progress) where
   sends_here : sends_turn A t (1 + 3 * A) ≡ t
   sends_here = ap (λ (b : Bool). if b then t else t + 1) (is_le (1 + 3 * A) (1 + 3 * A) (omega arith))
 
-  module _ (new : Progress) (k set : ℕ) (lanes : List Lane) (more : List Entry) (d : ℕ) (es : History) (lead : Leads k set new.store lanes more d es) (whole : k ≡ 1 + 3 * A) (takes : TakesIn w old.relay new.relay more) (is : new.lanes.items ≡ lanes) where
-    pub landed : new.sent ≡ old.sent → new.set ≡ set → new.dropped ≡ old.dropped → (now here : ℕ) → now ≡ old.delivered → d ≡ here → new.delivered ≡ min (now + here) (2 ^ 64 - 1) → length w.script.sends ≤ 100000
+  module _ (new : Progress) (k set : ℕ) (lanes : List Lane) (more : List Entry) (d : ℕ) (es : History) (lead : Leads k set new.store lanes more d es) (whole : k ≡ 1 + 3 * A)
+      (takes : TakesIn w old.relay new.relay more) (is : new.lanes.items ≡ lanes) where
+    pub landed : new.sent ≡ old.sent → new.set ≡ set → new.dropped ≡ old.dropped → (now here : ℕ) → now ≡ old.delivered → d ≡ here → new.delivered ≡ min (now + here) (2 ^ 64 - 1)
+        → length w.script.sends ≤ 100000
         → ((n : ℕ) (h : History) → LegalBefore w h n → DeliversOnce w h) → Carries w t 0 t (1 + 3 * A) old new es
     landed sent is_set dropped now here was is_here delivered sends once h r =
         let one = led k set new.store lanes more d es lead lanes refl h r in
         let taken = takes r.calls r.relay in
         let legal : LegalAt w t (1 + 3 * A) (h ++ es) = subst (λ m. LegalAt w t m (h ++ es)) whole one.0 in
-        let stand : LanesStand w (h ++ es) t (1 + 3 * A) lanes (inside w.net w.streams r.calls ++ more) = subst (λ m. LanesStand w (h ++ es) t m lanes (inside w.net w.streams r.calls ++ more)) whole one.1 in
-        let all : length (Deliveries (h ++ es)) ≡ length (Deliveries h) + d = ap length (filter_map-append delivery_of h es) ∙ (length-append (Deliveries h) (Deliveries es) ∙ adds refl lead.deliveries) in
+        let stand : LanesStand w (h ++ es) t (1 + 3 * A) lanes (inside w.net w.streams r.calls ++ more) =
+        subst (λ m. LanesStand w (h ++ es) t m lanes (inside w.net w.streams r.calls ++ more)) whole one.1 in
+        let all : length (Deliveries (h ++ es)) ≡ length (Deliveries h) + d = ap length (filter_map-append delivery_of h es)
+        ∙ (length-append (Deliveries h) (Deliveries es) ∙ adds refl lead.deliveries) in
         let drops : count_by is_dropped (h ++ es) ≡ count_by is_dropped h + 0 = count_by-append is_dropped h es ∙ adds refl lead.drops in
         let few : length (Deliveries (h ++ es)) ≤ length w.script.sends = few_delivered w (h ++ es) (once (number A t (1 + 3 * A)) (h ++ es) legal) in
         record {

@@ -86,7 +86,8 @@ set_twice (z ∷ xs) zero x y = refl
 set_twice (z ∷ xs) (suc i) x y = ap (λ zs. z ∷ zs) (set_twice xs i x y)
 
 -- an element of a list with another at a place
-pub set_cases : {X : Type 0} (P : ℕ → X → Type 0) (xs : List X) (i : ℕ) (y : X) → ((j : ℕ) (x : X) → slice_get xs j ≡ Some x → P j x) → P i y → (j : ℕ) (x : X) → slice_get (set xs i y) j ≡ Some x → P j x
+pub set_cases : {X : Type 0} (P : ℕ → X → Type 0) (xs : List X) (i : ℕ) (y : X) → ((j : ℕ) (x : X) → slice_get xs j ≡ Some x → P j x) → P i y → (j : ℕ) (x : X)
+    → slice_get (set xs i y) j ≡ Some x → P j x
 set_cases P [] i y each here j x at = absurd (cc at)
 set_cases P (z ∷ xs) zero y each here zero x at = subst (P zero) (cc at) here
 set_cases P (z ∷ xs) zero y each here (suc j) x at = each (suc j) x at
@@ -94,7 +95,8 @@ set_cases P (z ∷ xs) (suc i) y each here zero x at = each zero x at
 set_cases P (z ∷ xs) (suc i) y each here (suc j) x at = set_cases (λ k v. P (suc k) v) xs i y (λ k v at'. each (suc k) v at') here j x at
 
 -- an element of a list with one more
-pub each_pushed : {X : Type 0} (P : ℕ → X → Type 0) (xs : List X) (y : X) → ((i : ℕ) (x : X) → slice_get xs i ≡ Some x → P i x) → P (length xs) y → (i : ℕ) (x : X) → slice_get (xs ++ y ∷ []) i ≡ Some x → P i x
+pub each_pushed : {X : Type 0} (P : ℕ → X → Type 0) (xs : List X) (y : X) → ((i : ℕ) (x : X) → slice_get xs i ≡ Some x → P i x) → P (length xs) y → (i : ℕ) (x : X)
+    → slice_get (xs ++ y ∷ []) i ≡ Some x → P i x
 each_pushed P [] y each here zero x at = subst (P zero) (cc at) here
 each_pushed P [] y each here (suc i) x at = absurd (cc at)
 each_pushed P (z ∷ xs) y each here zero x at = each zero x at

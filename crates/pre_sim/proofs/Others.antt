@@ -1,12 +1,11 @@
 -- What the events of a phase leave as it is: the lanes of the arcs that it isn't of.
-use Rattle.std.proofs.Common.{ℕ, zero, suc, ◌≡◌, ◌≢◌, ◌==◌, ◌+◌, ◌*◌, ◌<◌, ◌≤◌, Bool, true, false, List, [], ◌∷◌, ◌++◌, length, refl, sym, ◌∙◌, ap, inl, inr, arith, subst, Option, Some, None, filter_map, map, filter}
+use Rattle.std.proofs.Common.{ℕ, zero, suc, ◌≡◌, ◌≢◌, ◌==◌, ◌+◌, ◌*◌, ◌<◌, ◌≤◌, Bool, true, false, List, [], ◌++◌, length, refl, sym, ◌∙◌, ap, arith}
+use Rattle.std.proofs.Common.{subst, Some, None, map, filter}
 use Rattle.std.specs.Prelude.{◌&&◌, nat_le, not, if◌then◌else◌}
-use Rattle.std.specs.List.{list_any, AllByRecursion as Every}
-use Rattle.std.proofs.lemmas.Bool.{cases_lt}
+use Rattle.std.specs.List.{list_any}
 use Rattle.std.proofs.lemmas.List.{append-nil}
 use Rattle.std.proofs.lemmas.List.Elements.{filter_map-append}
-use Rattle.pre_topo.specs.declared.arcs.Mode.TheVariants as mode
-use Rattle.pre_history.specs.Scenario.{Scenario, arc, capacity}
+use Rattle.pre_history.specs.Scenario.{Scenario, capacity}
 use Rattle.pre_history.specs.History.{PlainEvent, Begin, History}
 use Rattle.pre_history.specs.Moments.{Phase, moments, place_of}
 use Rattle.pre_history.specs.Placed.{AllAt, AllWithin, HasPlace, IsAt, IsWithin, number, moment_of}
@@ -19,23 +18,23 @@ use Rattle.pre_history.proofs.Placing.{phase_events, same_place}
 use Rattle.pre_history.proofs.Stays.{told_same}
 use Rattle.pre_history.proofs.Turns.{same_begins, same_ends, same_arrivals}
 use Rattle.pre_bridge.specs.Inside.{Entry}
-use Rattle.pre_links.specs.Standing.{AreOver, LinkStands}
-use Rattle.pre_links.proofs.Phases.{still_hears, still_stands}
+use Rattle.pre_links.specs.Standing.{AreOver}
+use Rattle.pre_links.proofs.Phases.{place_within, still_hears, still_stands}
 use Rattle.pre_outgoing.proofs.Keeping.{other_events}
 use Rattle.pre_incoming.proofs.OnAir.{others_stay}
 use Rattle.pre_sim.specs.declared.lanes.Lane.{Lane}
-use Rattle.pre_sim.specs.Stages.{Stage, untouched, set_up, settled, entered, stage_at, setting_at, turn_at, is_calm, tick_at, link_turn}
+use Rattle.pre_sim.specs.Stages.{Stage, untouched, set_up, settled, entered, setting_at, turn_at, is_calm, tick_at, link_turn}
 use Rattle.pre_sim.specs.Stands.{has_begun, StillWaiting, AreApart, AreRings, AreInside, LaneStands}
 use Rattle.pre_sim.proofs.Lists.{every_weaker, none_selected}
-use Rattle.pre_sim.proofs.NumberTests.{is_eq, not_eq, same_number}
-use Rattle.pre_sim.proofs.StageTests.{same_stage}
+use Rattle.pre_sim.proofs.NumberTests.{same_number}
 
 -- ---- what waits is read off the begins and the entries
 
 pub still_same : (h es : History) (a p : ℕ) → Begins (h ++ es) a ≡ Begins h a → Entries (h ++ es) a p ≡ Entries h a p → StillWaiting (h ++ es) a p ≡ StillWaiting h a p
 unfolding StillWaiting
 still_same h es a p begins entries =
-    ap (λ (bs : List Begin). map (λ (e : RingEntry). e.frame) (filter (λ (e : RingEntry). e.entered && not (list_any (λ (b : Begin). what_is b.what e.frame && (b.from == 0)) bs)) (Entries (h ++ es) a p))) begins
+    ap (λ (bs : List Begin). map (λ (e : RingEntry). e.frame) (filter (λ (e : RingEntry). e.entered && not (list_any (λ (b : Begin). what_is b.what e.frame && (b.from == 0)) bs))
+    (Entries (h ++ es) a p))) begins
     ∙ ap (λ (xs : List RingEntry). map (λ (e : RingEntry). e.frame) (filter (λ (e : RingEntry). e.entered && not (has_begun h a e.frame)) xs)) entries
 
 pub same_rings : (w : Scenario) (h es : History) (a : ℕ) (lane : Lane) → Begins (h ++ es) a ≡ Begins h a → ((p : ℕ) → Entries (h ++ es) a p ≡ Entries h a p)
@@ -64,7 +63,8 @@ module _ (arcs t k a : ℕ) (k_lt : k < moments arcs) (a_lt : a < arcs) where
   pub same_entries : (p : ℕ) (past es : History) → k ≢ 1 + 3 * arcs → AllAt arcs (number arcs t k) es → Entries (past ++ es) a p ≡ Entries past a p
   same_entries p past es other at =
       filter_map-append (entry_on a p) past es
-      ∙ (ap (λ xs. Entries past a p ++ xs) (none_selected (entry_on a p) es (every_weaker (IsAt arcs (number arcs t k)) (λ e. entry_on a p e ≡ None) (not_entry p other) es at)) ∙ append-nil (Entries past a p))
+      ∙ (ap (λ xs. Entries past a p ++ xs) (none_selected (entry_on a p) es (every_weaker (IsAt arcs (number arcs t k)) (λ e. entry_on a p e ≡ None) (not_entry p other) es at))
+      ∙ append-nil (Entries past a p))
 
   not_active : (u : ℕ) → k ≢ 1 + 2 * arcs + a → (e : PlainEvent) → IsAt arcs (number arcs t k) e → active_on a u e ≡ None
   not_active u other (PlainEvent.active s b v) (lt, at) = go (b == a) refl
@@ -86,14 +86,6 @@ module _ (arcs t k a : ℕ) (k_lt : k < moments arcs) (a_lt : a < arcs) where
   same_active w u past es other at = told_same w past es a u (every_weaker (IsAt arcs (number arcs t k)) (λ e. active_on a u e ≡ None) (not_active u other) es at)
 
 -- ---- the lane of an arc that the phase isn't of
-
-place_within : (arcs : ℕ) (p : Phase) → HasPlace arcs (place_of arcs p) p → place_of arcs p < moments arcs
-place_within arcs Phase.sets place = omega arith
-place_within arcs (Phase.ends a) (lt, place) = omega (arith, lt)
-place_within arcs (Phase.arrivals a) (lt, place) = omega (arith, lt)
-place_within arcs (Phase.expiries a) (lt, place) = omega (arith, lt)
-place_within arcs Phase.entries place = omega arith
-place_within arcs (Phase.starts a) (lt, place) = omega (arith, lt)
 
 same_setting : (w : Scenario) (h es : History) (a : ℕ) (s : Stage) → setting_at w h a s ≡ setting_at w (h ++ es) a s
 same_setting w h es a (untouched zero) = refl

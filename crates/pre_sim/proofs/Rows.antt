@@ -1,5 +1,5 @@
 -- The parts of several arcs in a row.
-use Rattle.std.proofs.Common.{ℕ, ◌≡◌, ◌≢◌, ◌==◌, ◌+◌, ◌*◌, ◌<◌, ◌≤◌, false, List, [], ◌∷◌, ◌++◌, length, refl, sym, ◌∙◌, ap, inl, inr, arith, subst, Option, Some, None, filter_map, append_assoc}
+use Rattle.std.proofs.Common.{ℕ, ◌≡◌, ◌≢◌, ◌==◌, ◌+◌, ◌*◌, ◌<◌, ◌≤◌, List, [], ◌∷◌, ◌++◌, length, refl, sym, ◌∙◌, ap, inl, inr, arith, subst, Option, Some, append_assoc}
 use Rattle.std.specs.Prelude.{slice_get, set}
 use Rattle.std.specs.List.{AllByRecursion as Every}
 use Rattle.std.proofs.lemmas.Bool.{cases_eq, cases_lt}
@@ -8,7 +8,7 @@ use Rattle.std.proofs.lemmas.List.Elements.{filter_map-append, filter-append}
 use Rattle.std.proofs.Math.Nat.{add-zero}
 use Rattle.std.proofs.lemmas.Option.{slice_get_within as within}
 use Rattle.pre_history.specs.Scenario.{Scenario}
-use Rattle.pre_history.specs.History.{PlainEvent, History}
+use Rattle.pre_history.specs.History.{History}
 use Rattle.pre_history.specs.Moments.{Phase, place_of}
 use Rattle.pre_history.specs.Placed.{HasPlace, number, moment_of}
 use Rattle.pre_history.specs.Selected.{delivery_of, is_dropped}
@@ -19,7 +19,7 @@ use Rattle.pre_links.specs.Standing.{AreOver}
 use Rattle.pre_links.proofs.Early.{before, behind}
 use Rattle.pre_sim.specs.declared.lanes.Lane.{Lane}
 use Rattle.pre_sim.specs.Keeps.{Store, Keeps}
-use Rattle.pre_sim.specs.Stages.{Stage, stage_at, link_turn}
+use Rattle.pre_sim.specs.Stages.{stage_at, link_turn}
 use Rattle.pre_sim.specs.Parts.{Before, HearsOf, LegalAt, IsFront, LanePart, LaneFront, LanesPart, LanesFront, its_place}
 use Rattle.pre_sim.specs.Stands.{LaneStands, LanesStand}
 use Rattle.pre_sim.proofs.Lists.{count_by-append, set_found, set_elsewhere}
@@ -48,14 +48,46 @@ record Apart (A k b : ℕ) : Type 0 where
 apart_of : (A n b : ℕ) (p : Phase) → HasPlace A (place_of A p) p → IsOf n p → b ≢ n → b < A → Apart A (place_of A p) b
 apart_of A n b Phase.sets place own other b_lt = absurd own
 apart_of A n b (Phase.ends a) (lt, place) own other b_lt =
-    record { some = omega arith; no_end = λ e. other (omega (arith, e, own)); no_arrival = omega (arith, lt); no_expiry = omega (arith, lt); no_entry = omega (arith, lt); no_start = omega (arith, lt) }
+    record {
+      some = omega arith;
+      no_end = λ e. other (omega (arith, e, own));
+      no_arrival = omega (arith, lt);
+      no_expiry = omega (arith, lt);
+      no_entry = omega (arith, lt);
+      no_start =
+          omega (arith, lt);
+    }
 apart_of A n b (Phase.arrivals a) (lt, place) own other b_lt =
-    record { some = omega arith; no_end = omega (arith, b_lt); no_arrival = λ e. other (omega (arith, e, own)); no_expiry = omega (arith, lt); no_entry = omega (arith, lt); no_start = omega (arith, lt) }
+    record {
+      some = omega arith;
+      no_end = omega (arith, b_lt);
+      no_arrival = λ e. other (omega (arith, e, own));
+      no_expiry = omega (arith, lt);
+      no_entry = omega (arith, lt);
+      no_start =
+          omega (arith, lt);
+    }
 apart_of A n b (Phase.expiries a) (lt, place) own other b_lt =
-    record { some = omega arith; no_end = omega (arith, b_lt); no_arrival = omega (arith, b_lt); no_expiry = λ e. other (omega (arith, e, own)); no_entry = omega (arith, lt); no_start = omega (arith, lt) }
+    record {
+      some = omega arith;
+      no_end = omega (arith, b_lt);
+      no_arrival = omega (arith, b_lt);
+      no_expiry = λ e. other (omega (arith, e, own));
+      no_entry = omega (arith, lt);
+      no_start =
+          omega (arith, lt);
+    }
 apart_of A n b Phase.entries place own other b_lt = absurd own
 apart_of A n b (Phase.starts a) (lt, place) own other b_lt =
-    record { some = omega arith; no_end = omega (arith, b_lt); no_arrival = omega (arith, b_lt); no_expiry = omega (arith, b_lt); no_entry = omega arith; no_start = λ e. other (omega (arith, e, own)) }
+    record {
+      some = omega arith;
+      no_end = omega (arith, b_lt);
+      no_arrival = omega (arith, b_lt);
+      no_expiry = omega (arith, b_lt);
+      no_entry =
+          omega arith;
+      no_start = λ e. other (omega (arith, e, own));
+    }
 
 -- the ticks of which the link of an arc is settled have no arrivals any more
 pub are_over : (w : Scenario) (t k b : ℕ) → b < length w.net.arcs → 1 ≤ k → AreOver w (link_turn (stage_at (length w.net.arcs) t k b)) (number (length w.net.arcs) t k)
@@ -117,23 +149,26 @@ module _ (w : Scenario) (t k n m d : ℕ) (p : Phase) (store store' store'' : St
         let legal' : LegalAt w t (k + (n + 1)) ((h ++ es) ++ fs) = subst (λ j. LegalAt w t j ((h ++ es) ++ fs)) next_place now.legal in
         let mine : of_arc n inside ++ next ≡ of_arc n (inside ++ next) = ap (λ xs. of_arc n inside ++ xs) (sym (all_of n next part.here)) ∙ sym (of_arc-append n inside next) in
         let its : LaneStands w ((h ++ es) ++ fs) n (stage_at A t (k + (n + 1)) n) new (of_arc n (inside ++ next)) =
-            subst (λ j. LaneStands w ((h ++ es) ++ fs) n (stage_at A t j n) new (of_arc n (inside ++ next))) next_place
-            (subst (LaneStands w ((h ++ es) ++ fs) n (stage_at A t (its_place w p + 1) n) new) mine now.stands) in
+        subst (λ j. LaneStands w ((h ++ es) ++ fs) n (stage_at A t j n) new (of_arc n (inside ++ next))) next_place
+        (subst (LaneStands w ((h ++ es) ++ fs) n (stage_at A t (its_place w p + 1) n) new) mine now.stands) in
         let each : LanesStand w ((h ++ es) ++ fs) t (k + (n + 1)) (set mid n new) (inside ++ next) = λ a l at. elim (cases_eq a n) [
-          | inl is ↦ subst (λ (x : Lane). LaneStands w ((h ++ es) ++ fs) a (stage_at A t (k + (n + 1)) a) x (of_arc a (inside ++ next))) (set_found mid n new l (subst (λ j. slice_get (set mid n new) j ≡ Some l) is at))
+          | inl is ↦ subst (λ (x : Lane). LaneStands w ((h ++ es) ++ fs) a (stage_at A t (k + (n + 1)) a) x (of_arc a (inside ++ next)))
+              (set_found mid n new l (subst (λ j. slice_get (set mid n new) j ≡ Some l) is at))
               (subst (λ j. LaneStands w ((h ++ es) ++ fs) j (stage_at A t (k + (n + 1)) j) new (of_arc j (inside ++ next))) (sym is) its)
           | inr other ↦
               let there : slice_get mid a ≡ Some l = sym (set_elsewhere mid n a new other) ∙ at in
               let a_lt : a < A = omega (arith, within mid a l there, few) in
-              let others : of_arc a inside ≡ of_arc a (inside ++ next) = sym (of_arc-append a inside next ∙ (ap (λ xs. of_arc a inside ++ xs) (none_of a n other next part.here) ∙ append-nil (of_arc a inside))) in
+              let others : of_arc a inside ≡ of_arc a (inside ++ next) =
+              sym (of_arc-append a inside next ∙ (ap (λ xs. of_arc a inside ++ xs) (none_of a n other next part.here) ∙ append-nil (of_arc a inside))) in
               let off = apart_of A n a p place own other a_lt in
               let stage : stage_at A t (k + n) a ≡ stage_at A t (k + (n + 1)) a =
-                  ap (λ j. stage_at A t j a) (sym p_at) ∙ (sym (same_stage A t (its_place w p) a off.some off.no_expiry off.no_entry off.no_start) ∙ ap (λ j. stage_at A t j a) next_place) in
+              ap (λ j. stage_at A t j a) (sym p_at) ∙ (sym (same_stage A t (its_place w p) a off.some off.no_expiry off.no_entry off.no_start) ∙ ap (λ j. stage_at A t j a) next_place) in
               let over : AreOver w (link_turn (stage_at A t (k + n) a)) (moment_of w t p) =
-                  subst (λ j. AreOver w (link_turn (stage_at A t j a)) (moment_of w t p)) p_at (are_over w t (its_place w p) a a_lt off.some) in
+              subst (λ j. AreOver w (link_turn (stage_at A t j a)) (moment_of w t p)) p_at (are_over w t (its_place w p) a a_lt off.some) in
               subst (LaneStands w ((h ++ es) ++ fs) a (stage_at A t (k + (n + 1)) a) l) others
               (subst (λ s. LaneStands w ((h ++ es) ++ fs) a s l (of_arc a inside)) stage
-              (stays w t p (h ++ es) fs a a_lt place was.legal.0 now.happens off.no_end off.no_arrival off.no_expiry off.no_entry off.no_start (stage_at A t (k + n) a) l (of_arc a inside) over (first.1 a l there)))
+              (stays w t p (h ++ es) fs a a_lt place was.legal.0 now.happens off.no_end off.no_arrival off.no_expiry off.no_entry off.no_start (stage_at A t (k + n) a) l
+              (of_arc a inside) over (first.1 a l there)))
         ] in
         subst (λ g. LegalAt w t (k + (n + 1)) g × LanesStand w g t (k + (n + 1)) (set mid n new) (entries ++ (more ++ next))) (append_assoc h es fs)
         (subst (λ xs. LegalAt w t (k + (n + 1)) ((h ++ es) ++ fs) × LanesStand w ((h ++ es) ++ fs) t (k + (n + 1)) (set mid n new) xs) (append_assoc entries more next) (legal', each));

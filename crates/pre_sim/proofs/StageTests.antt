@@ -1,9 +1,9 @@
 -- The stage of an arc at the places of a tick.
-use Rattle.std.proofs.Common.{ℕ, suc, ◌≡◌, ◌≢◌, ◌+◌, ◌*◌, ◌<◌, ◌≤◌, ◌==◌, Bool, true, false, refl, sym, ◌∙◌, ap, inl, inr, arith}
+use Rattle.std.proofs.Common.{ℕ, ◌≡◌, ◌≢◌, ◌+◌, ◌*◌, ◌<◌, ◌≤◌, Bool, false, sym, ◌∙◌, ap, inl, inr, arith}
 use Rattle.std.specs.Prelude.{nat_le, if◌then◌else◌}
 use Rattle.std.proofs.lemmas.Bool.{cases_lt}
 use Rattle.pre_sim.specs.Stages.{Stage, untouched, set_up, settled, entered, stage_at}
-use Rattle.pre_sim.proofs.NumberTests.{is_le, no_le, is_eq, not_eq}
+use Rattle.pre_sim.proofs.NumberTests.{is_le, no_le, not_eq}
 
 -- a bound that the next number passes too, or doesn't
 same_bound : (k m : ℕ) → k ≢ m → nat_le (k + 1) m ≡ nat_le k m

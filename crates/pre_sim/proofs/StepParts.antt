@@ -25,13 +25,15 @@ pub has_told : (s : SimView) (h : History) → Reaches s.run s.next 0 h s.progre
 has_told s h r = record { legal = r.legal; reaches = r }
 
 module _ (s v u : SimView) (same : s ≡ v) (a b : Takes) (torn : Fails) where
-  pub tells_more : u.run ≡ v.run → u.next ≡ v.next + 1 → (last : Bool) → last ≡ false → (es : History) × TellsAll v.run.net a b es × AdvancePart v.run v.next v.progress u.progress last es → StepTells s step.More u a b torn
+  pub tells_more : u.run ≡ v.run → u.next ≡ v.next + 1 → (last : Bool) → last ≡ false → (es : History) × TellsAll v.run.net a b es
+      × AdvancePart v.run v.next v.progress u.progress last es → StepTells s step.More u a b torn
   tells_more kept next last is (es, told, any) =
       let part : TickPart v.run v.next v.progress u.progress es = subst (λ x. AdvancePart v.run v.next v.progress u.progress x es) is any in
       subst (λ (x : SimView). (es : History) × TellsAll x.run.net a b es × ((h : History) → HasTold x h → HasTold u (h ++ es))) (sym same) (
         es,
         told,
-        λ h has. has_told u (h ++ es) (subst (λ n. Reaches u.run n 0 (h ++ es) u.progress) (sym next) (subst (λ (w : Scenario). Reaches w (v.next + 1) 0 (h ++ es) u.progress) (sym kept) (part h has.reaches))),
+        λ h has. has_told u (h ++ es) (subst (λ n. Reaches u.run n 0 (h ++ es) u.progress) (sym next)
+            (subst (λ (w : Scenario). Reaches w (v.next + 1) 0 (h ++ es) u.progress) (sym kept) (part h has.reaches))),
       )
 
   pub tells_ended : (new : Progress) (last : Bool) → last ≡ true → (es : History) × TellsAll v.run.net a b es × AdvancePart v.run v.next v.progress new last es → StepTells s step.Ended u a b torn
@@ -48,9 +50,11 @@ module _ (s v u : SimView) (same : s ≡ v) (a b : Takes) (torn : Fails) where
       subst (λ (x : SimView). (es : History) × TellsAll x.run.net a b es × ((h : History) → HasTold x h → (tick : ℕ) × FirstAliasAt x.run (h ++ es) tick arc.0 ordinal)) (sym same)
       (es, told, λ h has. (v.next, alias h has.reaches))
 
-  pub tells_torn : ((es : History) × (e : PlainEvent) × AreWritten v.run.net es × IsWritten v.run.net e × ((base : List ℕ) (h : History) → a base h → torn base (h ++ es) e) × AdvanceFront v.run v.next v.progress (es ++ e ∷ [])) → StepTells s step.Stopped u a b torn
+  pub tells_torn : ((es : History) × (e : PlainEvent) × AreWritten v.run.net es × IsWritten v.run.net e × ((base : List ℕ) (h : History) → a base h → torn base (h ++ es) e)
+      × AdvanceFront v.run v.next v.progress (es ++ e ∷ [])) → StepTells s step.Stopped u a b torn
   tells_torn (es, e, all, one, takes, front) =
-      subst (λ (x : SimView). (es : History) × (e : PlainEvent) × AreWritten x.run.net es × IsWritten x.run.net e × ((base : List ℕ) (h : History) → a base h → torn base (h ++ es) e) × ((h : History) → HasTold x h → IsFrontOfLegal x.run (h ++ (es ++ e ∷ [])))) (sym same)
+      subst (λ (x : SimView). (es : History) × (e : PlainEvent) × AreWritten x.run.net es × IsWritten x.run.net e × ((base : List ℕ) (h : History) → a base h → torn base (h ++ es) e)
+      × ((h : History) → HasTold x h → IsFrontOfLegal x.run (h ++ (es ++ e ∷ [])))) (sym same)
       (es, e, all, one, takes, λ h has. front h has.reaches)
 
 -- it stopped, found an alias, or no memory

@@ -25,7 +25,8 @@ pub part_of_none : (net : Network) (took : Takes) (Whole : History → Type 0) �
 part_of_none net took Whole is = ([], tells_nothing net took, is)
 
 -- one event
-pub part_of_one : {T : Type 0} (net : Network) (r : Result T Halt) (old new : Takes) (torn : Fails) (e : PlainEvent) (Whole : T → History → Type 0) (Front : History → Type 0) (Before : ℕ → ℕ → History → Type 0)
+pub part_of_one : {T : Type 0} (net : Network) (r : Result T Halt) (old new : Takes) (torn : Fails) (e : PlainEvent) (Whole : T → History → Type 0) (Front : History → Type 0)
+    (Before : ℕ → ℕ → History → Type 0)
     → TellsOne net r old new torn e → ((x : T) → Whole x (e ∷ [])) → Front (e ∷ []) → TellsPart net r old new torn Whole Front Before
 part_of_one net (Ok x) old new torn e Whole Front Before told is front = (e ∷ [], told, is x)
 part_of_one net (Err Memory) old new torn e Whole Front Before told is front = absurd told
@@ -59,9 +60,11 @@ module _ {T U : Type 0} (net : Network) (r : Result T Halt) (s : Result U Halt) 
   then_early part d r_is s_is = subst (λ x. TellsPart net x a c torn Whole' Front' Before') (sym s_is) (early d (subst (λ x. TellsPart net x b c torn Whole Front Before) r_is part))
 
 -- so it is where no arrival is an alias in either
-pub then_front : {T U : Type 0} (net : Network) (r : Result T Halt) (s : Result U Halt) (a b c : Takes) (torn : Fails) (es : History) (Whole : T → History → Type 0) (Front : History → Type 0) (Whole' : U → History → Type 0) (Front' : History → Type 0)
+pub then_front : {T U : Type 0} (net : Network) (r : Result T Halt) (s : Result U Halt) (a b c : Takes) (torn : Fails) (es : History) (Whole : T → History → Type 0)
+    (Front : History → Type 0) (Whole' : U → History → Type 0) (Front' : History → Type 0)
     (Before' : ℕ → ℕ → History → Type 0)
-    → TellsAll net a b es → TellsPart net r b c torn Whole Front NoArrival → ((fs : History) → Front fs → Front' (es ++ fs)) → (d : Halt) → r ≡ Err d → s ≡ Err d → TellsPart net s a c torn Whole' Front' Before'
+    → TellsAll net a b es → TellsPart net r b c torn Whole Front NoArrival → ((fs : History) → Front fs → Front' (es ++ fs)) → (d : Halt) → r ≡ Err d → s ≡ Err d
+    → TellsPart net s a c torn Whole' Front' Before'
 then_front net r s a b c torn es Whole Front Whole' Front' Before' told part more d r_is s_is =
     then_early net r s a b c torn es Whole Front NoArrival Whole' Front' Before' told more (λ x i fs no. absurd no) part d r_is s_is
 
@@ -73,13 +76,16 @@ module _ {T : Type 0} (net : Network) (a b c : Takes) (torn : Fails) (es : Histo
   then_any (Ok x) part = (es ++ part.0, tells_then net a b c es part.0 told part.1, more x part.0 part.2)
   then_any (Err d) part = early net (Err d) (Err d) a b c torn es Whole Front Before Whole' Front' Before' told front before d part
 
-pub then_part : {T : Type 0} (net : Network) (r : Result T Halt) (a b c : Takes) (torn : Fails) (es : History) (Whole Whole' : T → History → Type 0) (Front Front' : History → Type 0) (Before' : ℕ → ℕ → History → Type 0)
+pub then_part : {T : Type 0} (net : Network) (r : Result T Halt) (a b c : Takes) (torn : Fails) (es : History) (Whole Whole' : T → History → Type 0) (Front Front' : History → Type 0)
+    (Before' : ℕ → ℕ → History → Type 0)
     → TellsAll net a b es → TellsPart net r b c torn Whole Front NoArrival → ((x : T) (fs : History) → Whole x fs → Whole' x (es ++ fs)) → ((fs : History) → Front fs → Front' (es ++ fs))
     → TellsPart net r a c torn Whole' Front' Before'
-then_part net r a b c torn es Whole Whole' Front Front' Before' told part more front = then_any net a b c torn es Whole Whole' Front Front' NoArrival Before' told more front (λ x i fs no. absurd no) r part
+then_part net r a b c torn es Whole Whole' Front Front' Before' told part more front = then_any net a b c torn es Whole Whole' Front Front' NoArrival Before' told more front
+    (λ x i fs no. absurd no) r part
 
 -- what holds after a whole part
-pub on_ok : {T : Type 0} (net : Network) (r : Result T Halt) (old new : Takes) (torn : Fails) (Whole : T → History → Type 0) (Front : History → Type 0) (Before : ℕ → ℕ → History → Type 0) (P : Type 0) → TellsPart net r old new torn Whole Front Before → ((x : T) (es : History) → Whole x es → P) → OnOk r P
+pub on_ok : {T : Type 0} (net : Network) (r : Result T Halt) (old new : Takes) (torn : Fails) (Whole : T → History → Type 0) (Front : History → Type 0)
+    (Before : ℕ → ℕ → History → Type 0) (P : Type 0) → TellsPart net r old new torn Whole Front Before → ((x : T) (es : History) → Whole x es → P) → OnOk r P
 on_ok net (Ok x) old new torn Whole Front Before P told says = says x told.0 told.2
 on_ok net (Err d) old new torn Whole Front Before P told says = tt
 

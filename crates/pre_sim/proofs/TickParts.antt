@@ -1,6 +1,6 @@
 -- The parts of a tick, one after another.
-use Rattle.std.proofs.Common.{ℕ, suc, ◌≡◌, ◌≢◌, ◌+◌, ◌*◌, ◌<◌, ◌≤◌, ◌==◌, Bool, true, false, List, [], ◌∷◌, ◌++◌, length, refl, sym, ◌∙◌, ap, arith, subst, Some, length-append, append_assoc}
-use Rattle.std.specs.Prelude.{count_by, nat_le, slice_get, if◌then◌else◌}
+use Rattle.std.proofs.Common.{ℕ, ◌≡◌, ◌+◌, ◌*◌, ◌<◌, ◌≤◌, Bool, List, [], ◌++◌, length, refl, sym, ◌∙◌, ap, arith, subst, length-append, append_assoc}
+use Rattle.std.specs.Prelude.{count_by, if◌then◌else◌}
 use Rattle.std.proofs.lemmas.List.{append-nil}
 use Rattle.std.proofs.lemmas.List.Elements.{filter_map-append}
 use Rattle.pre_history.specs.Scenario.{Scenario}
@@ -9,7 +9,7 @@ use Rattle.pre_history.specs.Placed.{number}
 use Rattle.pre_history.specs.History.{History}
 use Rattle.pre_history.specs.Selected.{delivery_of, is_dropped}
 use Rattle.pre_history.specs.Queries.{Deliveries}
-use Rattle.pre_history.specs.Legal.{LegalBefore, FirstAliasAt}
+use Rattle.pre_history.specs.Legal.{LegalBefore}
 use Rattle.pre_bridge.specs.declared.relays.Relay.{Relay}
 use Rattle.pre_bridge.specs.Inside.{Call, Entry, inside, of_arc}
 use Rattle.pre_bridge.specs.Relays.{Stands}
@@ -18,7 +18,7 @@ use Rattle.pre_sim.specs.declared.lanes.Lane.{Lane}
 use Rattle.pre_sim.specs.declared.ticks.Progress.{Progress}
 use Rattle.pre_sim.specs.Stages.{stage_at}
 use Rattle.pre_sim.specs.Stands.{LaneStands, LanesStand, AreSentBefore, AreSetBefore, Reaches, sets_turn, sends_turn}
-use Rattle.pre_sim.specs.Parts.{LegalAt, IsFront, LanesPart, LanesFront, EntriesPart, EntriesFront, Carries, CarriesFront, CarriesAlias}
+use Rattle.pre_sim.specs.Parts.{LegalAt, IsFront, LanesPart, LanesFront, EntriesPart, EntriesFront, Carries, CarriesFront}
 use Rattle.pre_sim.proofs.Lists.{count_by-append, within}
 use Rattle.pre_sim.proofs.NumberTests.{adds, is_le, not_eq}
 use Rattle.pre_sim.proofs.StageTests.{next_tick}
@@ -66,7 +66,8 @@ module _ (w : Scenario) (t : ℕ) where
         let done = first.legal h r.calls r.legal r.relay r.lanes (subst (λ n. AreSentBefore w n old.sent) sends_here r.sends) in
         (done.0, done.1, (done.2.0, done.2.1, subst (λ ls. LanesStand w (h ++ es) t (2 + 3 * A) ls (inside w.net w.streams done.2.0)) (sym is_c) done.2.2))
 
-    pub left : (new : Progress) (store : Store) → length e ≤ A → LanesPart w t (2 + 3 * A) A 0 store store c e [] fs → new.lanes.items ≡ e → new.relay ≡ mid.relay → new.sent ≡ mid.sent → new.set ≡ mid.set
+    pub left : (new : Progress) (store : Store) → length e ≤ A → LanesPart w t (2 + 3 * A) A 0 store store c e [] fs → new.lanes.items ≡ e → new.relay ≡ mid.relay → new.sent ≡ mid.sent
+        → new.set ≡ mid.set
         → new.dropped ≡ mid.dropped → new.delivered ≡ mid.delivered → Carries w t (1 + 3 * A) (t + 1) 0 old new (es ++ fs)
     left new store few second is_new relay sent set dropped delivered h r =
         let one = entered h r in
@@ -75,10 +76,10 @@ module _ (w : Scenario) (t : ℕ) where
         let two = second.legal (h ++ es) entries one.0 one.2.2 in
         let legal : LegalAt w (t + 1) 0 ((h ++ es) ++ fs) = subst (LegalBefore w ((h ++ es) ++ fs)) (next t A) two.0 in
         let all : length (Deliveries ((h ++ es) ++ fs)) ≡ length (Deliveries h) + 0 + 0 =
-            ap length (filter_map-append delivery_of (h ++ es) fs) ∙ (length-append (Deliveries (h ++ es)) (Deliveries fs)
-            ∙ adds (ap length (filter_map-append delivery_of h es) ∙ (length-append (Deliveries h) (Deliveries es) ∙ adds refl first.deliveries)) second.deliveries) in
+        ap length (filter_map-append delivery_of (h ++ es) fs) ∙ (length-append (Deliveries (h ++ es)) (Deliveries fs)
+        ∙ adds (ap length (filter_map-append delivery_of h es) ∙ (length-append (Deliveries h) (Deliveries es) ∙ adds refl first.deliveries)) second.deliveries) in
         let drops : count_by is_dropped ((h ++ es) ++ fs) ≡ (count_by is_dropped h + count_by is_dropped es) + 0 =
-            count_by-append is_dropped (h ++ es) fs ∙ adds (count_by-append is_dropped h es) second.drops in
+        count_by-append is_dropped (h ++ es) fs ∙ adds (count_by-append is_dropped h es) second.drops in
         let stand : LanesStand w ((h ++ es) ++ fs) t (2 + 3 * A + A) e entries = subst (LanesStand w ((h ++ es) ++ fs) t (2 + 3 * A + A) e) (append-nil entries) two.1 in
         subst (λ g. Reaches w (t + 1) 0 g new) (append_assoc h es fs) (record {
           legal = legal;
@@ -98,7 +99,8 @@ module _ (w : Scenario) (t : ℕ) where
     left_front front h r = let one = entered h r in subst (IsFront w) (append_assoc h es fs) (front (h ++ es) (inside w.net w.streams one.2.0) one.0 one.2.2)
 
   -- after the starts each frame keeps a slot of its own
-  pub left_kept : (mid new : Progress) (c e : List Lane) (fs : History) → c ≡ mid.lanes.items → LanesPart w t (2 + 3 * A) A 0 mid.store mid.store c e [] fs → new.lanes.items ≡ e → new.relay ≡ mid.relay → new.store ≡ mid.store
+  pub left_kept : (mid new : Progress) (c e : List Lane) (fs : History) → c ≡ mid.lanes.items → LanesPart w t (2 + 3 * A) A 0 mid.store mid.store c e [] fs → new.lanes.items ≡ e
+      → new.relay ≡ mid.relay → new.store ≡ mid.store
       → IsKept w t mid → IsKept w t new
   left_kept mid new c e fs is_c part is_new relay store kept =
       let entries = inside w.net w.streams kept.calls in

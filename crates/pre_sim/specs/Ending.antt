@@ -1,5 +1,5 @@
 -- What goes on the wire at the end of an mPacket.
-use Rattle.std.specs.Prelude.{ℕ, ◌≡◌, ◌<◌, ◌+◌, ◌*◌, List, ◌++◌, length, set, true, Option, Some, None}
+use Rattle.std.specs.Prelude.{ℕ, ◌≡◌, ◌<◌, ◌+◌, List, ◌++◌, length, set, true, Option, Some, None}
 use Rattle.pre_rings.specs.declared.slots.FrameRef.{FrameRef}
 use Rattle.pre_mpacket.specs.Spelling.{head_of}
 use Rattle.pre_send.specs.Endings.{plans_end}

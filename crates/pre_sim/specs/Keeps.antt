@@ -1,6 +1,6 @@
 -- Where the frames of a run stand: each that waits, is being sent, is interrupted or is inside a bridge stands in a slot of the
 -- store, and no two stand in one slot. What is on a wire has octets of its own.
-use Rattle.std.specs.Prelude.{ℕ, ◌+◌, ◌≡◌, ◌<◌, ◌≤◌, ◌==◌, List, [], ◌∷◌, ◌++◌, length, map, count_by, set, slice_get, Contains, Option, Some}
+use Rattle.std.specs.Prelude.{ℕ, ◌+◌, ◌≡◌, ◌<◌, ◌≤◌, ◌==◌, List, [], ◌++◌, length, map, count_by, set, slice_get, Contains, Option, Some}
 use Rattle.std.specs.List.{sum_by, AllByRecursion as Every}
 use Rattle.pre_base.specs.declared.limits.TheConstants.{LEAST_FRAME}
 use Rattle.pre_base.specs.declared.numbers.FrameNo.{FrameNo}

@@ -81,7 +81,8 @@ fn tell_counts<W: Watcher>(
 fn counts<W: Watcher>(plan: &Plan, progress: &Progress, watcher: &mut W) -> Result<(), Halt>
     requires lanes { vec_len progress.now.lanes ≡ length plan.now.net.now.arcs }
     requires until { plan.now.script.now.until.0 ≤ 4 * 10 ^ 12 }
-    ensures part { TellsPart plan.now.net.now result (W.took watcher.old) (W.took watcher.new) (W.torn watcher.new) (λ x es. CountsPart (scenario_of plan.now) progress.now (length plan.now.net.now.arcs) es) (CountsFront (scenario_of plan.now) progress.now) NoArrival }
+    ensures part { TellsPart plan.now.net.now result (W.took watcher.old) (W.took watcher.new) (W.torn watcher.new)
+        (λ x es. CountsPart (scenario_of plan.now) progress.now (length plan.now.net.now.arcs) es) (CountsFront (scenario_of plan.now) progress.now) NoArrival }
     ensures cause { HasCause (W.faults watcher.old) (W.faults watcher.new) result }
     ensures same { W.same watcher.old watcher.new }
 {
@@ -99,7 +100,8 @@ pub(crate) fn close<W: Watcher>(
 ) -> Result<(), Halt>
     requires lanes { vec_len progress.now.lanes ≡ length plan.now.net.now.arcs }
     requires until { plan.now.script.now.until.0 ≤ 4 * 10 ^ 12 }
-    ensures part { TellsPart plan.now.net.now result (W.took watcher.old) (W.took watcher.new) (W.torn watcher.new) (λ x es. ClosesPart (scenario_of plan.now) progress.now es) (ClosesFront (scenario_of plan.now) progress.now) NoArrival }
+    ensures part { TellsPart plan.now.net.now result (W.took watcher.old) (W.took watcher.new) (W.torn watcher.new) (λ x es. ClosesPart (scenario_of plan.now) progress.now es)
+        (ClosesFront (scenario_of plan.now) progress.now) NoArrival }
     ensures cause { HasCause (W.faults watcher.old) (W.faults watcher.new) result }
     ensures same { W.same watcher.old watcher.new }
 {

@@ -43,7 +43,9 @@ pub(crate) fn end_on<W: Watcher>(
     requires keeps { LaneKeeps (scenario_of plan.now) store.old arc.0 lane.old }
     requires ready { IsReady lane.old.link now.0 }
     ensures ready { IsReady lane.new.link now.0 }
-    ensures part { TellsPart plan.now.net.now result (W.took watcher.old) (W.took watcher.new) (W.torn watcher.new) (λ x es. LanePart (scenario_of plan.now) now.0 (Phase.ends arc.0) arc.0 None lane.old 0 store.old store.new lane.new [] es) (LaneFront (scenario_of plan.now) now.0 (Phase.ends arc.0) arc.0 None lane.old) NoArrival }
+    ensures part { TellsPart plan.now.net.now result (W.took watcher.old) (W.took watcher.new) (W.torn watcher.new)
+        (λ x es. LanePart (scenario_of plan.now) now.0 (Phase.ends arc.0) arc.0 None lane.old 0 store.old store.new lane.new [] es)
+        (LaneFront (scenario_of plan.now) now.0 (Phase.ends arc.0) arc.0 None lane.old) NoArrival }
     ensures cause { HasCause (W.faults watcher.old) (W.faults watcher.new) result }
     ensures same { W.same watcher.old watcher.new }
 {
@@ -143,7 +145,9 @@ pub(crate) fn ends<W: Watcher>(
     requires keeps { (entries : List Entry) × Keeps (scenario_of plan.now) store.old lanes.old entries [] }
     requires ready { AreReady now.0 lanes.old }
     ensures ready { AreReady now.0 lanes.new }
-    ensures part { TellsPart plan.now.net.now result (W.took watcher.old) (W.took watcher.new) (W.torn watcher.new) (λ x es. LanesPart (scenario_of plan.now) now.0 1 (length plan.now.net.now.arcs) 0 store.old store.new lanes.old lanes.new [] es) (LanesFront (scenario_of plan.now) now.0 1 lanes.old) NoArrival }
+    ensures part { TellsPart plan.now.net.now result (W.took watcher.old) (W.took watcher.new) (W.torn watcher.new)
+        (λ x es. LanesPart (scenario_of plan.now) now.0 1 (length plan.now.net.now.arcs) 0 store.old store.new lanes.old lanes.new [] es)
+        (LanesFront (scenario_of plan.now) now.0 1 lanes.old) NoArrival }
     ensures cause { HasCause (W.faults watcher.old) (W.faults watcher.new) result }
     ensures same { W.same watcher.old watcher.new }
 {

@@ -31,7 +31,8 @@ pub(crate) fn enter<W: Watcher>(
 ) -> Result<bool, Halt>
     requires arc { arc.0 < length net.now.arcs }
     requires out { IsOut store.old frame.slot }
-    ensures part { TellsPart net.now result (W.took watcher.old) (W.took watcher.new) (W.torn watcher.new) (λ entered es. RingTells now.0 arc.0 frame store.old store.new rings.old rings.new entered es) (RingFront now.0 arc.0 frame store.old rings.old) NoArrival }
+    ensures part { TellsPart net.now result (W.took watcher.old) (W.took watcher.new) (W.torn watcher.new)
+        (λ entered es. RingTells now.0 arc.0 frame store.old store.new rings.old rings.new entered es) (RingFront now.0 arc.0 frame store.old rings.old) NoArrival }
     ensures cause { HasCause (W.faults watcher.old) (W.faults watcher.new) result }
     ensures same { W.same watcher.old watcher.new }
 {
@@ -73,7 +74,9 @@ pub(crate) fn come<W: Watcher>(
     requires keeps { (entries : List Entry) × Keeps (scenario_of plan.now) store.old lanes.old entries (frame ∷ []) }
     requires over { GoesOver (scenario_of plan.now) frame.frame arc.0 }
     ensures links { SameLinks lanes.old lanes.new }
-    ensures part { TellsPart plan.now.net.now result (W.took watcher.old) (W.took watcher.new) (W.torn watcher.new) (λ entered es. ComePart (scenario_of plan.now) now.0 arc.0 frame store.old store.new lanes.old lanes.new entered es) (ComesFront (scenario_of plan.now) now.0 (comes_to arc.0 frame ∷ []) lanes.old) NoArrival }
+    ensures part { TellsPart plan.now.net.now result (W.took watcher.old) (W.took watcher.new) (W.torn watcher.new)
+        (λ entered es. ComePart (scenario_of plan.now) now.0 arc.0 frame store.old store.new lanes.old lanes.new entered es)
+        (ComesFront (scenario_of plan.now) now.0 (comes_to arc.0 frame ∷ []) lanes.old) NoArrival }
     ensures cause { HasCause (W.faults watcher.old) (W.faults watcher.new) result }
     ensures same { W.same watcher.old watcher.new }
 {
@@ -93,12 +96,15 @@ pub(crate) fn relays<W: Watcher>(
 ) -> Result<u64, Halt>
     requires fit { AllFit plan.now.net.now plan.now.streams.now plan.now.script.now }
     requires lanes { length lanes.old ≡ length plan.now.net.now.arcs }
-    requires kept { (calls : List Call) × Stands relay.old plan.now.net.now plan.now.streams.now calls × Keeps (scenario_of plan.now) store.old lanes.old (inside plan.now.net.now plan.now.streams.now calls) [] }
+    requires kept { (calls : List Call) × Stands relay.old plan.now.net.now plan.now.streams.now calls
+        × Keeps (scenario_of plan.now) store.old lanes.old (inside plan.now.net.now plan.now.streams.now calls) [] }
     ensures few { IfOk result (λ lost. lost ≤ length plan.now.net.now.arcs) }
     ensures links { SameLinks lanes.old lanes.new }
-    ensures kept { OnOk result ((calls : List Call) × Stands relay.new plan.now.net.now plan.now.streams.now calls × Keeps (scenario_of plan.now) store.new lanes.new (inside plan.now.net.now plan.now.streams.now calls) []) }
+    ensures kept { OnOk result ((calls : List Call) × Stands relay.new plan.now.net.now plan.now.streams.now calls
+        × Keeps (scenario_of plan.now) store.new lanes.new (inside plan.now.net.now plan.now.streams.now calls) []) }
     ensures latest { relay.new.latest ≡ relay.old.latest }
-    ensures part { TellsPart plan.now.net.now result (W.took watcher.old) (W.took watcher.new) (W.torn watcher.new) (λ lost es. RelaysPart (scenario_of plan.now) now.0 relay.old lanes.old relay.new lanes.new lost es) (RelaysFront (scenario_of plan.now) now.0 relay.old lanes.old) NoArrival }
+    ensures part { TellsPart plan.now.net.now result (W.took watcher.old) (W.took watcher.new) (W.torn watcher.new)
+        (λ lost es. RelaysPart (scenario_of plan.now) now.0 relay.old lanes.old relay.new lanes.new lost es) (RelaysFront (scenario_of plan.now) now.0 relay.old lanes.old) NoArrival }
     ensures cause { HasCause (W.faults watcher.old) (W.faults watcher.new) result }
     ensures same { W.same watcher.old watcher.new }
 {
@@ -130,7 +136,9 @@ pub(crate) fn send<W: Watcher>(
     requires keeps { (entries : List Entry) × Keeps (scenario_of plan.now) store.old lanes.old entries [] }
     ensures links { SameLinks lanes.old lanes.new }
     ensures keeps { OnOk result (KeepsSame (scenario_of plan.now) store.old store.new lanes.old lanes.new) }
-    ensures part { TellsPart plan.now.net.now result (W.took watcher.old) (W.took watcher.new) (W.torn watcher.new) (λ entered es. ComesPart (scenario_of plan.now) now.0 (sent_frame (scenario_of plan.now) number ∷ []) lanes.old lanes.new (drops_of entered) es) (ComesFront (scenario_of plan.now) now.0 (sent_frame (scenario_of plan.now) number ∷ []) lanes.old) NoArrival }
+    ensures part { TellsPart plan.now.net.now result (W.took watcher.old) (W.took watcher.new) (W.torn watcher.new)
+        (λ entered es. ComesPart (scenario_of plan.now) now.0 (sent_frame (scenario_of plan.now) number ∷ []) lanes.old lanes.new (drops_of entered) es)
+        (ComesFront (scenario_of plan.now) now.0 (sent_frame (scenario_of plan.now) number ∷ []) lanes.old) NoArrival }
     ensures cause { HasCause (W.faults watcher.old) (W.faults watcher.new) result }
     ensures same { W.same watcher.old watcher.new }
 {

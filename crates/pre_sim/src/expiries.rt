@@ -29,7 +29,9 @@ pub(crate) fn expire_on<W: Watcher>(
     requires now { now.0 ≤ 4 * 10 ^ 12 }
     requires ready { IsReady lane.old.link now.0 }
     ensures settled { IsUpTo lane.new.link now.0 }
-    ensures part { TellsPart plan.now.net.now result (W.took watcher.old) (W.took watcher.new) (W.torn watcher.new) (λ x es. (store : Store) → LanePart (scenario_of plan.now) now.0 (Phase.expiries arc.0) arc.0 (Some partner.now) lane.old 0 store store lane.new [] es) (LaneFront (scenario_of plan.now) now.0 (Phase.expiries arc.0) arc.0 (Some partner.now) lane.old) NoArrival }
+    ensures part { TellsPart plan.now.net.now result (W.took watcher.old) (W.took watcher.new) (W.torn watcher.new)
+        (λ x es. (store : Store) → LanePart (scenario_of plan.now) now.0 (Phase.expiries arc.0) arc.0 (Some partner.now) lane.old 0 store store lane.new [] es)
+        (LaneFront (scenario_of plan.now) now.0 (Phase.expiries arc.0) arc.0 (Some partner.now) lane.old) NoArrival }
     ensures cause { HasCause (W.faults watcher.old) (W.faults watcher.new) result }
     ensures same { W.same watcher.old watcher.new }
 {
@@ -60,7 +62,9 @@ pub(crate) fn expiries<W: Watcher>(
     requires now { now.0 ≤ 4 * 10 ^ 12 }
     requires ready { AreReady now.0 lanes.old }
     ensures settled { OnOk result (AreSettled now.0 lanes.new) }
-    ensures part { TellsPart plan.now.net.now result (W.took watcher.old) (W.took watcher.new) (W.torn watcher.new) (λ x es. (store : Store) → LanesPart (scenario_of plan.now) now.0 (1 + 2 * length plan.now.net.now.arcs) (length plan.now.net.now.arcs) 0 store store lanes.old lanes.new [] es) (LanesFront (scenario_of plan.now) now.0 (1 + 2 * length plan.now.net.now.arcs) lanes.old) NoArrival }
+    ensures part { TellsPart plan.now.net.now result (W.took watcher.old) (W.took watcher.new) (W.torn watcher.new)
+        (λ x es. (store : Store) → LanesPart (scenario_of plan.now) now.0 (1 + 2 * length plan.now.net.now.arcs) (length plan.now.net.now.arcs) 0 store store lanes.old lanes.new [] es)
+        (LanesFront (scenario_of plan.now) now.0 (1 + 2 * length plan.now.net.now.arcs) lanes.old) NoArrival }
     ensures cause { HasCause (W.faults watcher.old) (W.faults watcher.new) result }
     ensures same { W.same watcher.old watcher.new }
 {

@@ -50,7 +50,10 @@ impl<'a> Model for Sim<'a> {
 
     ghost view = { λ s. record { run = record { net = s.plan.net.now; streams = s.plan.streams.now; script = s.plan.script.now }; progress = s.progress; next = s.next.0; going = s.going } };
 
-    ghost invariant = { λ s. AllFit s.plan.net.now s.plan.streams.now s.plan.script.now × (vec_len s.progress.lanes ≡ length s.plan.net.now.arcs) × (s.next.0 ≤ s.plan.script.now.until.0) × (s.going ≡ true → IsWithin s.next.0 s.progress × IsKept (record { net = s.plan.net.now; streams = s.plan.streams.now; script = s.plan.script.now }) s.next.0 s.progress × AreReady s.next.0 s.progress.lanes.items × IsReached (record { net = s.plan.net.now; streams = s.plan.streams.now; script = s.plan.script.now }) s.next.0 0 s.progress) };
+    ghost invariant = { λ s. AllFit s.plan.net.now s.plan.streams.now s.plan.script.now × (vec_len s.progress.lanes ≡ length s.plan.net.now.arcs)
+        × (s.next.0 ≤ s.plan.script.now.until.0) × (s.going ≡ true → IsWithin s.next.0 s.progress
+        × IsKept (record { net = s.plan.net.now; streams = s.plan.streams.now; script = s.plan.script.now }) s.next.0 s.progress × AreReady s.next.0 s.progress.lanes.items
+        × IsReached (record { net = s.plan.net.now; streams = s.plan.streams.now; script = s.plan.script.now }) s.next.0 0 s.progress) };
 }
 
 impl<'a> Sim<'a> {

@@ -1,6 +1,7 @@
 ghost use Rattle.std.specs.Prelude.{◌≡◌, ◌↔◌, ◌≤◌, ◌+◌, ◌*◌, ◌^◌, IfOk, OnOk, IsTrue, length, vec_len};
 ghost use Rattle.pre_sim.specs.Telling.{HasCause};
-ghost use Rattle.pre_sim.specs.Parts.{TellsPart, NoArrival, SetsPart, SetsFront, SendsPart, SendsFront, EntriesPart, EntriesFront, Carries, CarriesFront, CarriesAlias, IsReached, TickPart, TickFront, AdvancePart, AdvanceFront, scenario_of};
+ghost use Rattle.pre_sim.specs.Parts.{TellsPart, NoArrival, SetsPart, SetsFront, SendsPart, SendsFront, EntriesPart, EntriesFront, Carries, CarriesFront, CarriesAlias};
+ghost use Rattle.pre_sim.specs.Parts.{IsReached, TickPart, TickFront, AdvancePart, AdvanceFront, scenario_of};
 ghost use Rattle.pre_sim.specs.Reach.{AllFit, IsWithin};
 ghost use Rattle.pre_sim.specs.Keeps.{IsKept, AreReady, AreSettled, SameLinks};
 
@@ -49,7 +50,8 @@ fn sets<W: Watcher>(
     ensures lanes { vec_len progress.new.lanes ≡ length plan.now.net.now.arcs }
     ensures counts { (progress.new.sent ≡ progress.old.sent) × (progress.new.dropped ≡ progress.old.dropped) }
     ensures links { SameLinks progress.old.lanes.items progress.new.lanes.items }
-    ensures part { TellsPart plan.now.net.now result (W.took watcher.old) (W.took watcher.new) (W.torn watcher.new) (λ x es. SetsPart (scenario_of plan.now) now.0 progress.old progress.new es) (SetsFront (scenario_of plan.now) now.0 progress.old) NoArrival }
+    ensures part { TellsPart plan.now.net.now result (W.took watcher.old) (W.took watcher.new) (W.torn watcher.new)
+        (λ x es. SetsPart (scenario_of plan.now) now.0 progress.old progress.new es) (SetsFront (scenario_of plan.now) now.0 progress.old) NoArrival }
     ensures cause { HasCause (W.faults watcher.old) (W.faults watcher.new) result }
     ensures same { W.same watcher.old watcher.new }
 {
@@ -84,7 +86,8 @@ fn sends<W: Watcher>(
     ensures counts { IsWithin (now.0 + 1) progress.new }
     ensures kept { OnOk result (IsKept (scenario_of plan.now) now.0 progress.new) }
     ensures links { SameLinks progress.old.lanes.items progress.new.lanes.items }
-    ensures part { TellsPart plan.now.net.now result (W.took watcher.old) (W.took watcher.new) (W.torn watcher.new) (λ x es. SendsPart (scenario_of plan.now) now.0 progress.old progress.new es) (SendsFront (scenario_of plan.now) now.0 progress.old) NoArrival }
+    ensures part { TellsPart plan.now.net.now result (W.took watcher.old) (W.took watcher.new) (W.torn watcher.new)
+        (λ x es. SendsPart (scenario_of plan.now) now.0 progress.old progress.new es) (SendsFront (scenario_of plan.now) now.0 progress.old) NoArrival }
     ensures cause { HasCause (W.faults watcher.old) (W.faults watcher.new) result }
     ensures same { W.same watcher.old watcher.new }
 {
@@ -121,7 +124,8 @@ fn entries<W: Watcher>(
     ensures counts { IsWithin (now.0 + 1) progress.new }
     ensures kept { OnOk result (IsKept (scenario_of plan.now) now.0 progress.new) }
     ensures links { SameLinks progress.old.lanes.items progress.new.lanes.items }
-    ensures part { TellsPart plan.now.net.now result (W.took watcher.old) (W.took watcher.new) (W.torn watcher.new) (λ x es. EntriesPart (scenario_of plan.now) now.0 progress.old progress.new es) (EntriesFront (scenario_of plan.now) now.0 progress.old) NoArrival }
+    ensures part { TellsPart plan.now.net.now result (W.took watcher.old) (W.took watcher.new) (W.torn watcher.new)
+        (λ x es. EntriesPart (scenario_of plan.now) now.0 progress.old progress.new es) (EntriesFront (scenario_of plan.now) now.0 progress.old) NoArrival }
     ensures cause { HasCause (W.faults watcher.old) (W.faults watcher.new) result }
     ensures same { W.same watcher.old watcher.new }
 {
@@ -156,7 +160,9 @@ fn land<W: Watcher>(
     ensures counts { (progress.new.sent ≡ progress.old.sent) × (progress.new.dropped ≡ progress.old.dropped) }
     ensures kept { OnOk result (IsKept (scenario_of plan.now) now.0 progress.new) }
     ensures settled { OnOk result (AreSettled now.0 progress.new.lanes.items) }
-    ensures part { TellsPart plan.now.net.now result (W.took watcher.old) (W.took watcher.new) (W.torn watcher.new) (λ x es. Carries (scenario_of plan.now) now.0 0 now.0 (1 + 3 * length plan.now.net.now.arcs) progress.old progress.new es) (CarriesFront (scenario_of plan.now) now.0 0 progress.old) (CarriesAlias (scenario_of plan.now) now.0 0 progress.old) }
+    ensures part { TellsPart plan.now.net.now result (W.took watcher.old) (W.took watcher.new) (W.torn watcher.new)
+        (λ x es. Carries (scenario_of plan.now) now.0 0 now.0 (1 + 3 * length plan.now.net.now.arcs) progress.old progress.new es)
+        (CarriesFront (scenario_of plan.now) now.0 0 progress.old) (CarriesAlias (scenario_of plan.now) now.0 0 progress.old) }
     ensures cause { HasCause (W.faults watcher.old) (W.faults watcher.new) result }
     ensures same { W.same watcher.old watcher.new }
 {
@@ -193,7 +199,9 @@ fn leave<W: Watcher>(
     ensures counts { IsWithin (now.0 + 1) progress.new }
     ensures kept { OnOk result (IsKept (scenario_of plan.now) now.0 progress.new) }
     ensures settled { OnOk result (AreSettled now.0 progress.new.lanes.items) }
-    ensures part { TellsPart plan.now.net.now result (W.took watcher.old) (W.took watcher.new) (W.torn watcher.new) (λ x es. Carries (scenario_of plan.now) now.0 (1 + 3 * length plan.now.net.now.arcs) (now.0 + 1) 0 progress.old progress.new es) (CarriesFront (scenario_of plan.now) now.0 (1 + 3 * length plan.now.net.now.arcs) progress.old) NoArrival }
+    ensures part { TellsPart plan.now.net.now result (W.took watcher.old) (W.took watcher.new) (W.torn watcher.new)
+        (λ x es. Carries (scenario_of plan.now) now.0 (1 + 3 * length plan.now.net.now.arcs) (now.0 + 1) 0 progress.old progress.new es)
+        (CarriesFront (scenario_of plan.now) now.0 (1 + 3 * length plan.now.net.now.arcs) progress.old) NoArrival }
     ensures cause { HasCause (W.faults watcher.old) (W.faults watcher.new) result }
     ensures same { W.same watcher.old watcher.new }
 {
@@ -220,7 +228,8 @@ fn run_tick<W: Watcher>(
     ensures counts { IsWithin (now.0 + 1) progress.new }
     ensures kept { OnOk result (IsKept (scenario_of plan.now) now.0 progress.new) }
     ensures ready { OnOk result (AreReady (now.0 + 1) progress.new.lanes.items) }
-    ensures part { TellsPart plan.now.net.now result (W.took watcher.old) (W.took watcher.new) (W.torn watcher.new) (λ x es. TickPart (scenario_of plan.now) now.0 progress.old progress.new es) (TickFront (scenario_of plan.now) now.0 progress.old) (CarriesAlias (scenario_of plan.now) now.0 0 progress.old) }
+    ensures part { TellsPart plan.now.net.now result (W.took watcher.old) (W.took watcher.new) (W.torn watcher.new)
+        (λ x es. TickPart (scenario_of plan.now) now.0 progress.old progress.new es) (TickFront (scenario_of plan.now) now.0 progress.old) (CarriesAlias (scenario_of plan.now) now.0 0 progress.old) }
     ensures cause { HasCause (W.faults watcher.old) (W.faults watcher.new) result }
     ensures same { W.same watcher.old watcher.new }
 {
@@ -248,7 +257,9 @@ pub(crate) fn advance<W: Watcher>(
     ensures kept { OnOk result (IsKept (scenario_of plan.now) now.0 progress.new) }
     ensures ready { OnOk result (AreReady (now.0 + 1) progress.new.lanes.items) }
     ensures last { IfOk result (λ last. IsTrue last ↔ (now ≡ plan.now.script.now.until)) }
-    ensures part { TellsPart plan.now.net.now result (W.took watcher.old) (W.took watcher.new) (W.torn watcher.new) (λ last es. AdvancePart (scenario_of plan.now) now.0 progress.old progress.new last es) (AdvanceFront (scenario_of plan.now) now.0 progress.old) (CarriesAlias (scenario_of plan.now) now.0 0 progress.old) }
+    ensures part { TellsPart plan.now.net.now result (W.took watcher.old) (W.took watcher.new) (W.torn watcher.new)
+        (λ last es. AdvancePart (scenario_of plan.now) now.0 progress.old progress.new last es) (AdvanceFront (scenario_of plan.now) now.0 progress.old)
+        (CarriesAlias (scenario_of plan.now) now.0 0 progress.old) }
     ensures cause { HasCause (W.faults watcher.old) (W.faults watcher.new) result }
     ensures same { W.same watcher.old watcher.new }
 {

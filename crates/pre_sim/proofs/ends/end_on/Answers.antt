@@ -1,4 +1,4 @@
-use Rattle.std.proofs.Common.{rules, Some, refl, sym, ◌∙◌, ap, subst, ◌≡◌, ◌+◌, ◌*◌, ◌≤◌, length, [], ◌∷◌, ◌++◌, None}
+use Rattle.std.proofs.Common.{rules, Some, refl, sym, ap, ◌≡◌, ◌+◌, [], None}
 use Rattle.pre_history.specs.Moments.{Phase}
 use Rattle.pre_topo.specs.declared.arcs.Arc.{Arc}
 use Rattle.pre_send.specs.Endings.{plans_end}
@@ -16,7 +16,8 @@ use Rattle.pre_sim.proofs.ends.end_on.Goals as goal
 pub returns-then-not-ends-clause-part : goal.returns-then-not-ends-clause-part
 returns-then-not-ends-clause-part g c =
     let w : Scenario = scenario_of c.args.plan.now in
-    part_of_none c.args.plan.now.net.now (g.W.Watcher.took c.args.watcher.now) (LanePart w c.args.now.0 (Phase.ends c.args.arc.0) c.args.arc.0 None c.args.lane.now 0 c.args.store.now c.args.store.now c.args.lane.now [])
+    part_of_none c.args.plan.now.net.now (g.W.Watcher.took c.args.watcher.now)
+    (LanePart w c.args.now.0 (Phase.ends c.args.arc.0) c.args.arc.0 None c.args.lane.now 0 c.args.store.now c.args.store.now c.args.lane.now [])
     (quiet_part w c.args.now.0 c.args.arc.0 c.requires.arc c.args.lane.now c.args.store.now (λ h legal sends. c.ends.ensures.none w h c.args.arc.0 c.requires.arc legal sends c.if-not-ends.true))
 
 pub next_to_leave-requires-clause-held : goal.next_to_leave-requires-clause-held
@@ -24,7 +25,8 @@ next_to_leave-requires-clause-held g c = all_held (scenario_of c.args.plan.now) 
 
 pub returns-in_err-kind-clause-part : goal.returns-in_err-kind-clause-part
 returns-in_err-kind-clause-part g c =
-    part_without_memory c.args.plan.now.net.now c.from_residual.result (g.W.Watcher.took c.args.watcher.now) (g.W.Watcher.torn c.args.watcher.now) _ _ _ c.from_residual.ensures.0 c.from_residual.ensures.1
+    part_without_memory c.args.plan.now.net.now c.from_residual.result (g.W.Watcher.took c.args.watcher.now)
+    (g.W.Watcher.torn c.args.watcher.now) _ _ _ c.from_residual.ensures.0 c.from_residual.ensures.1
     (no_front (scenario_of c.args.plan.now) c.args.now.0 c.args.arc.0 c.requires.arc c.args.lane.now)
 
 pub finish-ord-requires-clause-held : goal.finish-ord-requires-clause-held
@@ -32,7 +34,8 @@ finish-ord-requires-clause-held g c = all_held (scenario_of c.args.plan.now) c.a
 
 pub returns-in_err-push-clause-part : goal.returns-in_err-push-clause-part
 returns-in_err-push-clause-part g c =
-    part_without_memory c.args.plan.now.net.now c.from_residual-in_err-push.result (g.W.Watcher.took c.args.watcher.now) (g.W.Watcher.torn c.args.watcher.now) _ _ _ c.from_residual-in_err-push.ensures.0 c.from_residual-in_err-push.ensures.1
+    part_without_memory c.args.plan.now.net.now c.from_residual-in_err-push.result (g.W.Watcher.took c.args.watcher.now)
+    (g.W.Watcher.torn c.args.watcher.now) _ _ _ c.from_residual-in_err-push.ensures.0 c.from_residual-in_err-push.ensures.1
     (no_front (scenario_of c.args.plan.now) c.args.now.0 c.args.arc.0 c.requires.arc c.args.lane.now)
 
 pub returns-clause-part : goal.returns-clause-part
@@ -51,15 +54,15 @@ returns-clause-part g c =
     part_of_one c.args.plan.now.net.now c.tell.result (g.W.Watcher.took c.args.watcher.now) (g.W.Watcher.took c.tell.new.watcher) (g.W.Watcher.torn c.tell.new.watcher) _ _ _ _
     c.tell.ensures.one
     (λ x. ended_part w t a c.requires.arc c.args.store.now lane new c.requires.keeps l f p leaves due
-        (λ h e legal sends stored happens. c.finish-ord.ensures.ends w h a e c.requires.arc legal sends stored happens)
-        (λ h e on legal wire receives. c.in_ok-push.ensures.ok w h a e c.requires.arc on legal wire receives)
-        (λ h e legal stands on at ord few. c.mpacket_ended.ensures.stands w h a e c.requires.arc legal stands on at ord few)
-        refl refl refl refl refl delay refl refl refl c.put_back.new.store c.put_back.ensures c.finish-ord.ensures.frames)
+    (λ h e legal sends stored happens. c.finish-ord.ensures.ends w h a e c.requires.arc legal sends stored happens)
+    (λ h e on legal wire receives. c.in_ok-push.ensures.ok w h a e c.requires.arc on legal wire receives)
+    (λ h e legal stands on at ord few. c.mpacket_ended.ensures.stands w h a e c.requires.arc legal stands on at ord few)
+    refl refl refl refl refl delay refl refl refl c.put_back.new.store c.put_back.ensures c.finish-ord.ensures.frames)
     (ended_front w t a c.requires.arc c.args.store.now lane new c.requires.keeps l f p leaves due
-        (λ h e legal sends stored happens. c.finish-ord.ensures.ends w h a e c.requires.arc legal sends stored happens)
-        (λ h e on legal wire receives. c.in_ok-push.ensures.ok w h a e c.requires.arc on legal wire receives)
-        (λ h e legal stands on at ord few. c.mpacket_ended.ensures.stands w h a e c.requires.arc legal stands on at ord few)
-        refl refl refl refl refl delay refl refl refl)
+    (λ h e legal sends stored happens. c.finish-ord.ensures.ends w h a e c.requires.arc legal sends stored happens)
+    (λ h e on legal wire receives. c.in_ok-push.ensures.ok w h a e c.requires.arc on legal wire receives)
+    (λ h e legal stands on at ord few. c.mpacket_ended.ensures.stands w h a e c.requires.arc legal stands on at ord few)
+    refl refl refl refl refl delay refl refl refl)
 
 pub put_back-requires : goal.put_back-requires
 put_back-requires g c = done_is_out c.args.store.now (frames_of c.args.lane.now.outgoing.sender) c.finish-ord.result.done (frames_of c.finish-ord.new.self.sender)

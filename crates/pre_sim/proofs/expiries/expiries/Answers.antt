@@ -1,16 +1,14 @@
-use Rattle.std.proofs.Common.{rules, ℕ, ap, ◌∙◌, ◌≡◌, ◌+◌, ◌*◌, ◌<◌, ◌≤◌, ◌++◌, Some, sym, subst, length, [], arith, refl}
+use Rattle.std.proofs.Common.{rules, ap, ◌∙◌, ◌≡◌, ◌+◌, ◌*◌, ◌++◌, Some, sym, subst, length, [], arith, refl}
 use Rattle.std.specs.Prelude.{slice_get, slice_index_or}
 use Rattle.std.proofs.lemmas.List.{length-set}
 use Rattle.pre_topo.specs.Arcs.{reverse_of}
 use Rattle.pre_history.specs.Moments.{Phase}
 use Rattle.pre_history.specs.Scenario.{Scenario}
-use Rattle.pre_links.specs.Listening.{Hears}
 use Rattle.pre_links.specs.declared.partners.Partner.{Partner}
 use Rattle.pre_sim.specs.Keeps.{Store}
 use Rattle.pre_sim.specs.declared.lanes.Lane.{Lane}
 use Rattle.pre_sim.specs.Told.{tells_nothing, tells_then}
-use Rattle.pre_sim.specs.Parts.{LanePart, LaneFront, LanesPart, LanesFront, scenario_of}
-use Rattle.pre_sim.specs.Stands.{LanesStand}
+use Rattle.pre_sim.specs.Parts.{LanePart, LaneFront, LanesPart, scenario_of}
 use Rattle.pre_sim.proofs.Lists.{found_at}
 use Rattle.pre_sim.proofs.Readiness.{settled_set, all_settled}
 use Rattle.pre_sim.proofs.Rows.{lane_more, front_more, lanes_begin}
@@ -21,7 +19,11 @@ pub loop-arc-init : goal.loop-arc-init
 loop-arc-init g c = record {
   long = search rules;
   settled = λ a lane at. ((λ lt. absurd (omega (arith, lt))), (λ le. c.requires.ready a lane at));
-  part = ([], tells_nothing c.args.plan.now.net.now (g.W.Watcher.took c.args.watcher.now), λ store. lanes_begin (scenario_of c.args.plan.now) c.args.now.0 (1 + 2 * length c.args.plan.now.net.now.arcs) store c.args.lanes.now);
+  part = (
+    [],
+    tells_nothing c.args.plan.now.net.now (g.W.Watcher.took c.args.watcher.now),
+    λ store. lanes_begin (scenario_of c.args.plan.now) c.args.now.0 (1 + 2 * length c.args.plan.now.net.now.arcs) store c.args.lanes.now,
+  );
   later = search rules;
   same = search rules;
 }
@@ -43,13 +45,16 @@ returns-in_err-expire_on-clause-part g c =
     let here : slice_get c.loop-arc.lanes n ≡ Some lane = found ∙ ap Some c.index-lanes-arc.is in
     let other : Lane = slice_index_or c.loop-arc.lanes c.partner_of.result c.index-lanes-partner_of.result in
     let there : slice_get c.loop-arc.lanes (reverse_of n) ≡ Some other =
-        subst (λ j. slice_get c.loop-arc.lanes j ≡ Some other) c.partner_of.ensures
-        (found_at c.loop-arc.lanes c.partner_of.result c.index-lanes-partner_of.result (search rules) (sym c.index-lanes-partner_of.is) ∙ ap Some c.index-lanes-partner_of.is) in
+    subst (λ j. slice_get c.loop-arc.lanes j ≡ Some other) c.partner_of.ensures
+    (found_at c.loop-arc.lanes c.partner_of.result c.index-lanes-partner_of.result (search rules) (sym c.index-lanes-partner_of.is) ∙ ap Some c.index-lanes-partner_of.is) in
     let partner : Partner = other.partner in
-    then_front c.args.plan.now.net.now c.expire_on.result c.from_residual.result (g.W.Watcher.took c.args.watcher.now) (g.W.Watcher.took c.loop-arc.watcher) (g.W.Watcher.took c.expire_on.new.watcher) (g.W.Watcher.torn c.expire_on.new.watcher) before.0
+    then_front c.args.plan.now.net.now c.expire_on.result c.from_residual.result (g.W.Watcher.took c.args.watcher.now) (g.W.Watcher.took c.loop-arc.watcher)
+    (g.W.Watcher.took c.expire_on.new.watcher) (g.W.Watcher.torn c.expire_on.new.watcher) before.0
     (λ x es. (store : Store) → LanePart w t (Phase.expiries n) n (Some partner) lane 0 store store c.expire_on.new.lane [] es) (LaneFront w t (Phase.expiries n) n (Some partner) lane) _ _ _
     before.1 c.expire_on.ensures.part
-    (λ fs front. let store = [] in front_more w t (1 + 2 * length w.net.arcs) n 0 0 (Phase.expiries n) store store store c.args.lanes.now c.loop-arc.lanes (Some partner) lane c.expire_on.new.lane here (omega (arith, c.loop-arc.invariant.long)) refl (search rules, refl) refl [] [] before.0 fs (before.2 store) (λ h entries stand. (stand (reverse_of n) other there).partner) front)
+    (λ fs front. let store = [] in front_more w t (1 + 2 * length w.net.arcs) n 0 0 (Phase.expiries n) store store store c.args.lanes.now c.loop-arc.lanes
+    (Some partner) lane c.expire_on.new.lane here (omega (arith, c.loop-arc.invariant.long)) refl (search rules, refl) refl [] [] before.0 fs (before.2 store)
+    (λ h entries stand. (stand (reverse_of n) other there).partner) front)
     c.in_err-expire_on.field-0.0 c.in_err-expire_on.was (search rules)
 
 pub loop-arc-preserved : goal.loop-arc-preserved
@@ -63,8 +68,8 @@ loop-arc-preserved g c =
     let here : slice_get c.loop-arc.lanes n ≡ Some lane = found ∙ ap Some c.index-lanes-arc.is in
     let other : Lane = slice_index_or c.loop-arc.lanes c.partner_of.result c.index-lanes-partner_of.result in
     let there : slice_get c.loop-arc.lanes (reverse_of n) ≡ Some other =
-        subst (λ j. slice_get c.loop-arc.lanes j ≡ Some other) c.partner_of.ensures
-        (found_at c.loop-arc.lanes c.partner_of.result c.index-lanes-partner_of.result (search rules) (sym c.index-lanes-partner_of.is) ∙ ap Some c.index-lanes-partner_of.is) in
+    subst (λ j. slice_get c.loop-arc.lanes j ≡ Some other) c.partner_of.ensures
+    (found_at c.loop-arc.lanes c.partner_of.result c.index-lanes-partner_of.result (search rules) (sym c.index-lanes-partner_of.is) ∙ ap Some c.index-lanes-partner_of.is) in
     let partner : Partner = other.partner in
     let now = c.in_ok-expire_on.ensures.part in
     record {
@@ -73,7 +78,9 @@ loop-arc-preserved g c =
       part = (
         before.0 ++ now.0,
         tells_then c.args.plan.now.net.now (g.W.Watcher.took c.args.watcher.now) (g.W.Watcher.took c.loop-arc.watcher) (g.W.Watcher.took c.expire_on.new.watcher) before.0 now.0 before.1 now.1,
-        λ store. lane_more w t (1 + 2 * length w.net.arcs) n 0 0 (Phase.expiries n) store store store c.args.lanes.now c.loop-arc.lanes (Some partner) lane c.expire_on.new.lane here (omega (arith, c.loop-arc.invariant.long)) refl (search rules, refl) refl [] [] before.0 now.0 (before.2 store) (λ h entries stand. (stand (reverse_of n) other there).partner) (now.2 store),
+        λ store. lane_more w t (1 + 2 * length w.net.arcs) n 0 0 (Phase.expiries n) store store store c.args.lanes.now c.loop-arc.lanes (Some partner) lane c.expire_on.new.lane here
+            (omega (arith, c.loop-arc.invariant.long)) refl (search rules, refl) refl [] [] before.0 now.0 (before.2 store)
+            (λ h entries stand. (stand (reverse_of n) other there).partner) (now.2 store),
       );
       later = search rules;
       same = search rules;
@@ -85,5 +92,9 @@ returns-clause-settled g c = all_settled c.loop-arc.arc c.args.now.0 c.loop-arc.
 pub returns-clause-part : goal.returns-clause-part
 returns-clause-part g c =
     let part = c.loop-arc.invariant.part in
-    let done : c.loop-arc.arc ≡ length c.args.plan.now.net.now.arcs = search rules in
-    (part.0, part.1, λ store. subst (λ n. LanesPart (scenario_of c.args.plan.now) c.args.now.0 (1 + 2 * length c.args.plan.now.net.now.arcs) n 0 store store c.args.lanes.now c.loop-arc.lanes [] part.0) done (part.2 store))
+    let done : c.loop-arc.arc ≡ length c.args.plan.now.net.now.arcs = search rules in (
+      part.0,
+      part.1,
+      λ store. subst (λ n. LanesPart (scenario_of c.args.plan.now) c.args.now.0
+          (1 + 2 * length c.args.plan.now.net.now.arcs) n 0 store store c.args.lanes.now c.loop-arc.lanes [] part.0) done (part.2 store),
+    )

@@ -12,7 +12,8 @@ abbrev pub invariant-loop-arc : goal.invariant-loop-arc
 invariant-loop-arc g l = record {
   long : length l.lanes ≡ length l.plan.net.now.arcs;
   settled : (a : ℕ) (lane : Lane) → slice_get l.lanes a ≡ Some lane → (a < l.arc → IsUpTo lane.link l.now.0) × (l.arc ≤ a → IsReady lane.link l.now.0);
-  part : (es : History) × TellsAll l.plan.net.now (g.W.Watcher.took l.fn.watcher) (g.W.Watcher.took l.watcher) es × ((store : Store) → LanesPart (scenario_of l.plan) l.now.0 (1 + 2 * length l.plan.net.now.arcs) l.arc 0 store store l.fn.lanes l.lanes [] es);
+  part : (es : History) × TellsAll l.plan.net.now (g.W.Watcher.took l.fn.watcher) (g.W.Watcher.took l.watcher) es
+      × ((store : Store) → LanesPart (scenario_of l.plan) l.now.0 (1 + 2 * length l.plan.net.now.arcs) l.arc 0 store store l.fn.lanes l.lanes [] es);
   later : g.W.Watcher.faults l.fn.watcher ≤ g.W.Watcher.faults l.watcher;
   same : g.W.Watcher.same l.fn.watcher l.watcher;
 }

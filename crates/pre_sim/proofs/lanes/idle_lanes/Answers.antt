@@ -10,7 +10,8 @@ use Rattle.pre_sim.proofs.lanes.idle_lanes.Goals as goal
 use Rattle.pre_sim.proofs.Lists.{each_pushed}
 
 -- an arc by its number, whatever is named past the end
-idle_at : (timing : Timing) (arcs : List Arc) (i n : ℕ) (d : Arc) (lane : Lane) → i < length arcs → n ≡ i → IsIdle timing (slice_index_or arcs i d) lane → IsIdle timing (slice_index_or arcs n no_arc) lane
+idle_at : (timing : Timing) (arcs : List Arc) (i n : ℕ) (d : Arc) (lane : Lane) → i < length arcs → n ≡ i → IsIdle timing (slice_index_or arcs i d) lane
+    → IsIdle timing (slice_index_or arcs n no_arc) lane
 idle_at timing arcs i n d lane lt is idle =
     let one : slice_index_or arcs i d ≡ slice_index_or arcs i no_arc = sym (get_or_from_slice_get arcs i (slice_index_or arcs i d) no_arc (slice_get-get_or arcs i d lt)) in
     subst (λ k. IsIdle timing (slice_index_or arcs k no_arc) lane) (sym is) (subst (λ (x : Arc). IsIdle timing x lane) one idle)
@@ -22,7 +23,8 @@ loop-arc-preserved c =
       long = omega (arith, c.in_ok-push.ensures.len);
       each = subst (λ (lanes : List Lane). (a : ℕ) (lane : Lane) → slice_get lanes a ≡ Some lane → IsIdle c.args.net.now.timing (slice_index_or c.as_slice-arcs.result.now a no_arc) lane) (sym pushed)
           (each_pushed (λ a lane. IsIdle c.args.net.now.timing (slice_index_or c.as_slice-arcs.result.now a no_arc) lane) c.loop-arc.lanes.items c.in_ok-idle.field-0 c.loop-arc.invariant.each
-          (idle_at c.args.net.now.timing c.as_slice-arcs.result.now c.loop-arc.arc-index (length c.loop-arc.lanes.items) _ c.in_ok-idle.field-0 c.loop-arc-test.true (omega arith) c.in_ok-idle.ensures));
+          (idle_at c.args.net.now.timing c.as_slice-arcs.result.now c.loop-arc.arc-index (length c.loop-arc.lanes.items) _ c.in_ok-idle.field-0 c.loop-arc-test.true
+          (omega arith) c.in_ok-idle.ensures));
     }
 
 -- so many, each idle

@@ -1,9 +1,6 @@
-use Rattle.std.proofs.Common.{rules, refl, sym, ◌∙◌, ◌≡◌, ◌+◌, ◌*◌, ◌++◌, List, length, [], subst, arith}
+use Rattle.std.proofs.Common.{rules, refl, sym, ◌∙◌, ◌≡◌, ◌+◌, ◌*◌, ◌++◌, length, [], subst, arith}
 use Rattle.std.proofs.lemmas.List.{take_at, append-nil}
-use Rattle.pre_history.specs.Scenario.{Scenario}
-use Rattle.pre_bridge.specs.declared.relays.Relay.{Relay}
 use Rattle.pre_bridge.specs.Inside.{inside}
-use Rattle.pre_sim.specs.declared.lanes.Lane.{Lane}
 use Rattle.pre_sim.specs.Keeps.{AreReady, AreSettled, TakesIn}
 use Rattle.pre_sim.specs.Parts.{LanesPart, LanesFront, SetsFront, ArrivalsAlias, scenario_of}
 use Rattle.pre_sim.specs.Told.{tells_nothing, tells_then}
@@ -17,7 +14,8 @@ returns-in_err-sets-clause-part g c =
     let w = scenario_of c.args.plan.now in
     let t = c.args.now.0 in
     let old = c.args.progress.now in
-    then_front c.args.plan.now.net.now c.sets.result c.from_residual.result (g.W.Watcher.took c.args.watcher.now) (g.W.Watcher.took c.args.watcher.now) (g.W.Watcher.took c.sets.new.watcher) (g.W.Watcher.torn c.sets.new.watcher) []
+    then_front c.args.plan.now.net.now c.sets.result c.from_residual.result (g.W.Watcher.took c.args.watcher.now) (g.W.Watcher.took c.args.watcher.now)
+    (g.W.Watcher.took c.sets.new.watcher) (g.W.Watcher.torn c.sets.new.watcher) []
     _ (SetsFront w t old) _ _ _
     (tells_nothing c.args.plan.now.net.now (g.W.Watcher.took c.args.watcher.now)) c.sets.ensures.part (λ es front. sets_front w t old es front)
     c.in_err-sets.field-0.0 c.in_err-sets.was (search rules)
@@ -33,7 +31,8 @@ returns-in_err-ends-clause-part g c =
     let old = c.args.progress.now in
     let first = c.in_ok-sets.ensures.part in
     let set = sets_lead w t old c.sets.new.progress first.0 first.2 in
-    then_front c.args.plan.now.net.now c.ends.result c.from_residual-in_err-ends.result (g.W.Watcher.took c.args.watcher.now) (g.W.Watcher.took c.sets.new.watcher) (g.W.Watcher.took c.ends.new.watcher) (g.W.Watcher.torn c.ends.new.watcher) first.0
+    then_front c.args.plan.now.net.now c.ends.result c.from_residual-in_err-ends.result (g.W.Watcher.took c.args.watcher.now) (g.W.Watcher.took c.sets.new.watcher)
+    (g.W.Watcher.took c.ends.new.watcher) (g.W.Watcher.torn c.ends.new.watcher) first.0
     _ (LanesFront w t 1 c.deref_mut.result.now) _ _ _
     first.1 c.ends.ensures.part (λ es front. lead_front w t old 1 _ _ _ _ _ first.0 set c.deref_mut.result.now c.deref_mut.ensures.value es front)
     c.in_err-ends.field-0.0 c.in_err-ends.was (search rules)
@@ -83,7 +82,8 @@ returns-in_err-delivered-clause-part g c =
     let back : c.deref_mut-2.result.now ≡ c.ends.new.lanes = c.deref_mut-2.ensures.value ∙ take_at c.ends.new.lanes _ c.sets.new.progress.lanes.len (search rules) in
     let ended = lead_on w t old 1 _ _ _ _ _ first.0 set c.deref_mut.result.now c.deref_mut.ensures.value (length w.net.arcs) 0 c.ends.new.store c.ends.new.lanes [] second.0 second.2 in
     let told = tells_then c.args.plan.now.net.now (g.W.Watcher.took c.args.watcher.now) (g.W.Watcher.took c.sets.new.watcher) (g.W.Watcher.took c.ends.new.watcher) first.0 second.0 first.1 second.1 in
-    then_early c.args.plan.now.net.now c.arrivals.result c.from_residual-in_err-delivered.result (g.W.Watcher.took c.args.watcher.now) (g.W.Watcher.took c.ends.new.watcher) (g.W.Watcher.took c.arrivals.new.watcher) (g.W.Watcher.torn c.arrivals.new.watcher) (first.0 ++ second.0)
+    then_early c.args.plan.now.net.now c.arrivals.result c.from_residual-in_err-delivered.result (g.W.Watcher.took c.args.watcher.now) (g.W.Watcher.took c.ends.new.watcher)
+    (g.W.Watcher.took c.arrivals.new.watcher) (g.W.Watcher.torn c.arrivals.new.watcher) (first.0 ++ second.0)
     _ (LanesFront w t (1 + length w.net.arcs) c.deref_mut-2.result.now) (ArrivalsAlias w t c.deref_mut-2.result.now) _ _ _
     told
     (λ es front. lead_front w t old (1 + length w.net.arcs) _ _ _ _ _ (first.0 ++ second.0) ended c.deref_mut-2.result.now back es front)
@@ -112,13 +112,16 @@ returns-in_err-expiries-clause-part g c =
     let third = c.in_ok-delivered.ensures.part in
     let more = third.2.0 in
     let back' : c.deref_mut-3.result.now ≡ c.arrivals.new.lanes = c.deref_mut-3.ensures.value ∙ take_at c.arrivals.new.lanes _ c.sets.new.progress.lanes.len (search rules) in
-    let arrived = lead_on w t old (1 + length w.net.arcs) _ _ _ _ _ (first.0 ++ second.0) ended c.deref_mut-2.result.now back (length w.net.arcs) c.in_ok-delivered.delivered c.arrivals.new.store c.arrivals.new.lanes more third.0 third.2.1 in
-    let told' = tells_then c.args.plan.now.net.now (g.W.Watcher.took c.args.watcher.now) (g.W.Watcher.took c.ends.new.watcher) (g.W.Watcher.took c.arrivals.new.watcher) (first.0 ++ second.0) third.0 told third.1 in
-    then_front c.args.plan.now.net.now c.expiries.result c.from_residual-in_err-expiries.result (g.W.Watcher.took c.args.watcher.now) (g.W.Watcher.took c.arrivals.new.watcher) (g.W.Watcher.took c.expiries.new.watcher) (g.W.Watcher.torn c.expiries.new.watcher) ((first.0 ++ second.0) ++ third.0)
+    let arrived = lead_on w t old (1 + length w.net.arcs) _ _ _ _ _ (first.0 ++ second.0) ended c.deref_mut-2.result.now back
+    (length w.net.arcs) c.in_ok-delivered.delivered c.arrivals.new.store c.arrivals.new.lanes more third.0 third.2.1 in
+    let told' = tells_then c.args.plan.now.net.now (g.W.Watcher.took c.args.watcher.now) (g.W.Watcher.took c.ends.new.watcher) (g.W.Watcher.took c.arrivals.new.watcher)
+    (first.0 ++ second.0) third.0 told third.1 in
+    then_front c.args.plan.now.net.now c.expiries.result c.from_residual-in_err-expiries.result (g.W.Watcher.took c.args.watcher.now) (g.W.Watcher.took c.arrivals.new.watcher)
+    (g.W.Watcher.took c.expiries.new.watcher) (g.W.Watcher.torn c.expiries.new.watcher) ((first.0 ++ second.0) ++ third.0)
     _ (LanesFront w t (1 + 2 * length w.net.arcs) c.deref_mut-3.result.now) _ _ _
     told' c.expiries.ensures.part
     (λ es front. lead_front w t old (1 + length w.net.arcs + length w.net.arcs) _ _ _ _ _ ((first.0 ++ second.0) ++ third.0) arrived c.deref_mut-3.result.now back' es
-        (subst (λ k. LanesFront w t k c.deref_mut-3.result.now es) (twice (length w.net.arcs)) front))
+    (subst (λ k. LanesFront w t k c.deref_mut-3.result.now es) (twice (length w.net.arcs)) front))
     c.in_err-expiries.field-0.0 c.in_err-expiries.was (search rules)
 
 pub returns-in_err-expiries-clause-same : goal.returns-in_err-expiries-clause-same
@@ -147,12 +150,20 @@ returns-clause-kept g c =
     let third = c.in_ok-delivered.ensures.part in
     let more = third.2.0 in
     let back' : c.deref_mut-3.result.now ≡ c.arrivals.new.lanes = c.deref_mut-3.ensures.value ∙ take_at c.arrivals.new.lanes _ c.sets.new.progress.lanes.len (search rules) in
-    let arrived = lead_on w t old (1 + length w.net.arcs) _ _ _ _ _ (first.0 ++ second.0) ended c.deref_mut-2.result.now back (length w.net.arcs) c.in_ok-delivered.delivered c.arrivals.new.store c.arrivals.new.lanes more third.0 third.2.1 in
-    let told' = tells_then c.args.plan.now.net.now (g.W.Watcher.took c.args.watcher.now) (g.W.Watcher.took c.ends.new.watcher) (g.W.Watcher.took c.arrivals.new.watcher) (first.0 ++ second.0) third.0 told third.1 in
+    let arrived = lead_on w t old (1 + length w.net.arcs) _ _ _ _ _ (first.0 ++ second.0) ended c.deref_mut-2.result.now back
+    (length w.net.arcs) c.in_ok-delivered.delivered c.arrivals.new.store c.arrivals.new.lanes more third.0 third.2.1 in
+    let told' = tells_then c.args.plan.now.net.now (g.W.Watcher.took c.args.watcher.now) (g.W.Watcher.took c.ends.new.watcher) (g.W.Watcher.took c.arrivals.new.watcher)
+    (first.0 ++ second.0) third.0 told third.1 in
     let fourth = c.in_ok-expiries.ensures.part in
-    let expired = lead_on w t old (1 + length w.net.arcs + length w.net.arcs) _ _ _ _ _ ((first.0 ++ second.0) ++ third.0) arrived c.deref_mut-3.result.now back' (length w.net.arcs) 0 c.arrivals.new.store c.expiries.new.lanes [] fourth.0 (subst (λ k. LanesPart w t k (length w.net.arcs) 0 c.arrivals.new.store c.arrivals.new.store c.deref_mut-3.result.now c.expiries.new.lanes [] fourth.0) (twice (length w.net.arcs)) (fourth.2 c.arrivals.new.store)) in
-    let takes : TakesIn w old.relay c.arrivals.new.relay (([] ++ []) ++ more ++ []) = subst (λ r. TakesIn w r c.arrivals.new.relay (([] ++ []) ++ more ++ [])) first.2.kept.0 (subst (TakesIn w c.sets.new.progress.relay c.arrivals.new.relay) (sym (append-nil more)) third.2.2) in
-    landed_kept w t old _ (1 + length w.net.arcs + length w.net.arcs + length w.net.arcs) c.sets.new.progress.set c.expiries.new.lanes _ _ (((first.0 ++ second.0) ++ third.0) ++ fourth.0) expired (thrice (length w.net.arcs)) takes (take_at c.expiries.new.lanes _ c.sets.new.progress.lanes.len (search rules)) (search rules) c.requires.kept
+    let expired = lead_on w t old (1 + length w.net.arcs + length w.net.arcs) _ _ _ _ _ ((first.0 ++ second.0) ++ third.0) arrived c.deref_mut-3.result.now back'
+    (length w.net.arcs) 0 c.arrivals.new.store c.expiries.new.lanes [] fourth.0
+    (subst (λ k. LanesPart w t k (length w.net.arcs) 0 c.arrivals.new.store c.arrivals.new.store c.deref_mut-3.result.now c.expiries.new.lanes [] fourth.0)
+    (twice (length w.net.arcs)) (fourth.2 c.arrivals.new.store)) in
+    let takes : TakesIn w old.relay c.arrivals.new.relay (([] ++ []) ++ more ++ []) = subst (λ r. TakesIn w r c.arrivals.new.relay (([] ++ []) ++ more ++ [])) first.2.kept.0
+    (subst (TakesIn w c.sets.new.progress.relay c.arrivals.new.relay) (sym (append-nil more)) third.2.2) in
+    landed_kept w t old _ (1 + length w.net.arcs + length w.net.arcs + length w.net.arcs) c.sets.new.progress.set c.expiries.new.lanes _ _
+    (((first.0 ++ second.0) ++ third.0) ++ fourth.0) expired (thrice (length w.net.arcs)) takes (take_at c.expiries.new.lanes _ c.sets.new.progress.lanes.len (search rules))
+    (search rules) c.requires.kept
 
 pub returns-clause-settled : goal.returns-clause-settled
 returns-clause-settled g c =
@@ -172,15 +183,24 @@ returns-clause-part g c =
     let third = c.in_ok-delivered.ensures.part in
     let more = third.2.0 in
     let back' : c.deref_mut-3.result.now ≡ c.arrivals.new.lanes = c.deref_mut-3.ensures.value ∙ take_at c.arrivals.new.lanes _ c.sets.new.progress.lanes.len (search rules) in
-    let arrived = lead_on w t old (1 + length w.net.arcs) _ _ _ _ _ (first.0 ++ second.0) ended c.deref_mut-2.result.now back (length w.net.arcs) c.in_ok-delivered.delivered c.arrivals.new.store c.arrivals.new.lanes more third.0 third.2.1 in
-    let told' = tells_then c.args.plan.now.net.now (g.W.Watcher.took c.args.watcher.now) (g.W.Watcher.took c.ends.new.watcher) (g.W.Watcher.took c.arrivals.new.watcher) (first.0 ++ second.0) third.0 told third.1 in
+    let arrived = lead_on w t old (1 + length w.net.arcs) _ _ _ _ _ (first.0 ++ second.0) ended c.deref_mut-2.result.now back
+    (length w.net.arcs) c.in_ok-delivered.delivered c.arrivals.new.store c.arrivals.new.lanes more third.0 third.2.1 in
+    let told' = tells_then c.args.plan.now.net.now (g.W.Watcher.took c.args.watcher.now) (g.W.Watcher.took c.ends.new.watcher) (g.W.Watcher.took c.arrivals.new.watcher)
+    (first.0 ++ second.0) third.0 told third.1 in
     let fourth = c.in_ok-expiries.ensures.part in
-    let expired = lead_on w t old (1 + length w.net.arcs + length w.net.arcs) _ _ _ _ _ ((first.0 ++ second.0) ++ third.0) arrived c.deref_mut-3.result.now back' (length w.net.arcs) 0 c.arrivals.new.store c.expiries.new.lanes [] fourth.0 (subst (λ k. LanesPart w t k (length w.net.arcs) 0 c.arrivals.new.store c.arrivals.new.store c.deref_mut-3.result.now c.expiries.new.lanes [] fourth.0) (twice (length w.net.arcs)) (fourth.2 c.arrivals.new.store)) in
-    let takes : TakesIn w old.relay c.arrivals.new.relay (([] ++ []) ++ more ++ []) = subst (λ r. TakesIn w r c.arrivals.new.relay (([] ++ []) ++ more ++ [])) first.2.kept.0 (subst (TakesIn w c.sets.new.progress.relay c.arrivals.new.relay) (sym (append-nil more)) third.2.2) in
-    (
+    let expired = lead_on w t old (1 + length w.net.arcs + length w.net.arcs) _ _ _ _ _ ((first.0 ++ second.0) ++ third.0) arrived c.deref_mut-3.result.now back'
+    (length w.net.arcs) 0 c.arrivals.new.store c.expiries.new.lanes [] fourth.0
+    (subst (λ k. LanesPart w t k (length w.net.arcs) 0 c.arrivals.new.store c.arrivals.new.store c.deref_mut-3.result.now c.expiries.new.lanes [] fourth.0)
+    (twice (length w.net.arcs)) (fourth.2 c.arrivals.new.store)) in
+    let takes : TakesIn w old.relay c.arrivals.new.relay (([] ++ []) ++ more ++ []) = subst (λ r. TakesIn w r c.arrivals.new.relay (([] ++ []) ++ more ++ [])) first.2.kept.0
+    (subst (TakesIn w c.sets.new.progress.relay c.arrivals.new.relay) (sym (append-nil more)) third.2.2) in (
       ((first.0 ++ second.0) ++ third.0) ++ fourth.0,
-      tells_then c.args.plan.now.net.now (g.W.Watcher.took c.args.watcher.now) (g.W.Watcher.took c.arrivals.new.watcher) (g.W.Watcher.took c.expiries.new.watcher) ((first.0 ++ second.0) ++ third.0) fourth.0 told' fourth.1,
-      landed w t old _ (1 + length w.net.arcs + length w.net.arcs + length w.net.arcs) c.sets.new.progress.set c.expiries.new.lanes _ _ (((first.0 ++ second.0) ++ third.0) ++ fourth.0) expired (thrice (length w.net.arcs)) takes (take_at c.expiries.new.lanes _ c.sets.new.progress.lanes.len (search rules)) c.in_ok-sets.ensures.counts.0 refl c.in_ok-sets.ensures.counts.1 c.sets.new.progress.delivered c.in_ok-delivered.delivered first.2.kept.3 (omega arith) c.saturating_add-progress.ensures c.requires.fit.script_fits.sends_count
+      tells_then c.args.plan.now.net.now (g.W.Watcher.took c.args.watcher.now) (g.W.Watcher.took c.arrivals.new.watcher) (g.W.Watcher.took c.expiries.new.watcher)
+          ((first.0 ++ second.0) ++ third.0) fourth.0 told' fourth.1,
+      landed w t old _ (1 + length w.net.arcs + length w.net.arcs + length w.net.arcs) c.sets.new.progress.set c.expiries.new.lanes _ _
+          (((first.0 ++ second.0) ++ third.0) ++ fourth.0) expired (thrice (length w.net.arcs)) takes
+          (take_at c.expiries.new.lanes _ c.sets.new.progress.lanes.len (search rules))
+          c.in_ok-sets.ensures.counts.0 refl c.in_ok-sets.ensures.counts.1 c.sets.new.progress.delivered c.in_ok-delivered.delivered first.2.kept.3
+          (omega arith) c.saturating_add-progress.ensures c.requires.fit.script_fits.sends_count
           (λ n h legal. c.deliveries_are_of_frames_sent.ensures.so_far w (c.files_give_routes.ensures w c.requires.fit.streams_fit c.requires.fit.script_fits) n h legal),
     )
-

@@ -25,5 +25,20 @@ invariant_of-result c =
     let s : SimView = record { run = w; progress = p; next = 0; going = true } in
     let within : IsWithin 0 p = record { sent = omega arith; dropped = omega arith } in
     let early : c.in_ok-make.field-0.latest.0 ≤ 0 = search rules in
-    let kept : IsKept w 0 p = record { calls = []; stands = c.in_ok-make.ensures.stands; latest = early; keeps = keep_none w c.in_ok-make-2.field-0 c.in_ok-idle_lanes.field-0.items (search rules) } in
-    (c.requires, search rules, omega arith, λ going. (within, kept, idle_ready w c.in_ok-idle_lanes.field-0.items (search rules), ([], reaches_nothing s refl refl refl refl refl (search rules) c.in_ok-make.ensures.stands)))
+    let kept : IsKept w 0 p = record {
+      calls = [];
+      stands = c.in_ok-make.ensures.stands;
+      latest = early;
+      keeps =
+          keep_none w c.in_ok-make-2.field-0 c.in_ok-idle_lanes.field-0.items (search rules);
+    } in (
+      c.requires,
+      search rules,
+      omega arith,
+      λ going. (
+        within,
+        kept,
+        idle_ready w c.in_ok-idle_lanes.field-0.items (search rules),
+        ([], reaches_nothing s refl refl refl refl refl (search rules) c.in_ok-make.ensures.stands),
+      ),
+    )

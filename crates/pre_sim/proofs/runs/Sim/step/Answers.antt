@@ -7,7 +7,8 @@ use Rattle.pre_sim.proofs.runs.Sim.step.Goals as goal
 pub returns-in-Ok-true-clause-told : goal.returns-in-Ok-true-clause-told
 returns-in-Ok-true-clause-told g c =
     let old : SimView = record { run = scenario_of c.self.inside.plan; progress = c.self.inside.progress; next = c.self.inside.next.0; going = c.self.inside.going } in
-    tells_ended c.args.self.now old old (sym c.self.view_is) (g.W.Watcher.took c.args.watcher.now) (g.W.Watcher.took c.advance.new.watcher) (g.W.Watcher.torn c.advance.new.watcher) c.advance.new.progress c.in-Ok-true.field-0 c.in-Ok-true.field-0-test c.in-Ok-true.ensures.part
+    tells_ended c.args.self.now old old (sym c.self.view_is) (g.W.Watcher.took c.args.watcher.now) (g.W.Watcher.took c.advance.new.watcher)
+    (g.W.Watcher.torn c.advance.new.watcher) c.advance.new.progress c.in-Ok-true.field-0 c.in-Ok-true.field-0-test c.in-Ok-true.ensures.part
 
 pub returns-in-Ok-false-clause-told : goal.returns-in-Ok-false-clause-told
 returns-in-Ok-false-clause-told g c =
@@ -19,19 +20,23 @@ returns-in-Ok-false-clause-told g c =
 pub returns-in-Err-Stopped-clause-told : goal.returns-in-Err-Stopped-clause-told
 returns-in-Err-Stopped-clause-told g c =
     let old : SimView = record { run = scenario_of c.self.inside.plan; progress = c.self.inside.progress; next = c.self.inside.next.0; going = c.self.inside.going } in
-    stops c.args.self.now old old (sym c.self.view_is) (g.W.Watcher.took c.args.watcher.now) (g.W.Watcher.took c.advance.new.watcher) (g.W.Watcher.torn c.advance.new.watcher) c.in-Err-Stopped.field-0 _ c.in-Err-Stopped.ensures.part c.in-Err-Stopped.field-0-is
+    stops c.args.self.now old old (sym c.self.view_is) (g.W.Watcher.took c.args.watcher.now) (g.W.Watcher.took c.advance.new.watcher)
+    (g.W.Watcher.torn c.advance.new.watcher) c.in-Err-Stopped.field-0 _ c.in-Err-Stopped.ensures.part c.in-Err-Stopped.field-0-is
 
 pub returns-in-Err-Memory-clause-told : goal.returns-in-Err-Memory-clause-told
 returns-in-Err-Memory-clause-told g c =
     let old : SimView = record { run = scenario_of c.self.inside.plan; progress = c.self.inside.progress; next = c.self.inside.next.0; going = c.self.inside.going } in
-    finds_no_memory c.args.self.now old old (sym c.self.view_is) (g.W.Watcher.took c.args.watcher.now) (g.W.Watcher.took c.advance.new.watcher) (g.W.Watcher.torn c.advance.new.watcher) c.in-Err-Memory.field-0 _ c.in-Err-Memory.ensures.part c.in-Err-Memory.field-0-is
+    finds_no_memory c.args.self.now old old (sym c.self.view_is) (g.W.Watcher.took c.args.watcher.now) (g.W.Watcher.took c.advance.new.watcher)
+    (g.W.Watcher.torn c.advance.new.watcher) c.in-Err-Memory.field-0 _ c.in-Err-Memory.ensures.part c.in-Err-Memory.field-0-is
 
 pub returns-in-Err-Alias-clause-told : goal.returns-in-Err-Alias-clause-told
 returns-in-Err-Alias-clause-told g c =
     let s = c.args.self.now in
     let old : SimView = record { run = scenario_of c.self.inside.plan; progress = c.self.inside.progress; next = c.self.inside.next.0; going = c.self.inside.going } in
-    let told = finds_alias s old old (sym c.self.view_is) (g.W.Watcher.took c.args.watcher.now) (g.W.Watcher.took c.advance.new.watcher) (g.W.Watcher.torn c.advance.new.watcher) c.in-Err-Alias.field-0 _ c.in-Err-Alias.ensures.part c.in-Err-Alias.arc c.in-Err-Alias.ordinal c.in-Err-Alias.field-0-is in
-    same_alias s old (g.W.Watcher.took c.args.watcher.now) (g.W.Watcher.took c.advance.new.watcher) (g.W.Watcher.torn c.advance.new.watcher) _ c.in-Err-Alias.arc _ c.in-Err-Alias.ordinal c.in-Err-Alias.arc-is c.in-Err-Alias.ordinal-is told
+    let told = finds_alias s old old (sym c.self.view_is) (g.W.Watcher.took c.args.watcher.now) (g.W.Watcher.took c.advance.new.watcher)
+    (g.W.Watcher.torn c.advance.new.watcher) c.in-Err-Alias.field-0 _ c.in-Err-Alias.ensures.part c.in-Err-Alias.arc c.in-Err-Alias.ordinal c.in-Err-Alias.field-0-is in
+    same_alias s old (g.W.Watcher.took c.args.watcher.now) (g.W.Watcher.took c.advance.new.watcher)
+    (g.W.Watcher.torn c.advance.new.watcher) _ c.in-Err-Alias.arc _ c.in-Err-Alias.ordinal c.in-Err-Alias.arc-is c.in-Err-Alias.ordinal-is told
 
 pub advance-requires-clause-ready : goal.advance-requires-clause-ready
 advance-requires-clause-ready g c = (c.self.invariant.3 (search rules)).2
@@ -43,7 +48,7 @@ invariant_of-self-in-Ok-false g c =
     let w = scenario_of c.self.inside.plan in
     let done = c.in-Ok-false.ensures in
     let tick : TickPart w c.self.inside.next.0 c.self.inside.progress c.advance.new.progress done.part.0 =
-        subst (λ x. AdvancePart w c.self.inside.next.0 c.self.inside.progress c.advance.new.progress x done.part.0) c.in-Ok-false.field-0-test done.part.2 in (
+    subst (λ x. AdvancePart w c.self.inside.next.0 c.self.inside.progress c.advance.new.progress x done.part.0) c.in-Ok-false.field-0-test done.part.2 in (
       before.0,
       done.lanes,
       not_last c.in-Ok-false.field-0 c.self.inside.next c.self.inside.plan.script.now.until c.in-Ok-false.field-0-test done.last before.2,
