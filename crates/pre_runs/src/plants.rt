@@ -1,0 +1,146 @@
+//! Networks and streams that the examples run over.
+
+/// Two stations and a link that preempts.
+pub const PREEMPTING: &str = "node = [
+    {name = 'a', kind = 'station'},
+    {name = 'b', kind = 'station'},
+]
+link = [
+    {ends = ['a', 'b'], cost = 1, mode = 'on'},
+]
+";
+
+/// The same, where a fragment that is cut has 124 octets of its frame at least.
+pub const LONG_FRAGMENTS: &str = "node = [
+    {name = 'a', kind = 'station'},
+    {name = 'b', kind = 'station'},
+]
+link = [
+    {ends = ['a', 'b'], cost = 1, mode = 'on', add_frag = 1},
+]
+";
+
+/// The same as the first, at eight ticks an octet.
+pub const SLOW: &str = "node = [
+    {name = 'a', kind = 'station'},
+    {name = 'b', kind = 'station'},
+]
+link = [
+    {ends = ['a', 'b'], cost = 8, mode = 'on'},
+]
+";
+
+/// The same as the first, with rings of one frame each.
+pub const NARROW: &str = "node = [
+    {name = 'a', kind = 'station'},
+    {name = 'b', kind = 'station'},
+]
+link = [
+    {ends = ['a', 'b'], cost = 1, mode = 'on', rings = [1, 1, 1, 1, 1, 1, 1, 1]},
+]
+";
+
+/// The same as the first, for preemptable frames of up to 2000 octets.
+pub const WIDE: &str = "node = [
+    {name = 'a', kind = 'station'},
+    {name = 'b', kind = 'station'},
+]
+link = [
+    {ends = ['a', 'b'], cost = 1, mode = 'on', largest = 2000},
+]
+";
+
+/// Two stations and a link that does not preempt, for preemptable frames of up to 2000 octets.
+pub const WIDE_WHOLE: &str = "node = [
+    {name = 'a', kind = 'station'},
+    {name = 'b', kind = 'station'},
+]
+link = [
+    {ends = ['a', 'b'], cost = 1, mode = 'off', largest = 2000},
+]
+";
+
+/// A bridge between three stations. Priorities are express from 4 on over the first link, and from 6 on over the others.
+pub const AREAS: &str = "node = [
+    {name = 'a', kind = 'station'},
+    {name = 'm', kind = 'bridge', latency = 100},
+    {name = 'b', kind = 'station'},
+    {name = 'c', kind = 'station'},
+]
+link = [
+    {ends = ['a', 'm'], cost = 1, mode = 'on'},
+    {ends = ['m', 'b'], cost = 1, mode = 'on', express_from = 6},
+    {ends = ['c', 'm'], cost = 1, mode = 'on', express_from = 6},
+]
+";
+
+/// Two stations and a link that negotiates, over which preemptable frames wait until preemption is active.
+pub const NEGOTIATING: &str = "timing = {interval = 100000, ttl = 4, unit = 100000, verify = 1000}
+node = [
+    {name = 'a', kind = 'station'},
+    {name = 'b', kind = 'station'},
+]
+link = [
+    {ends = ['a', 'b'], cost = 1, mode = 'negotiate'},
+]
+";
+
+/// The same, where they go whole until then.
+pub const PASSING: &str = "timing = {interval = 100000, ttl = 4, unit = 100000, verify = 1000}
+node = [
+    {name = 'a', kind = 'station'},
+    {name = 'b', kind = 'station'},
+]
+link = [
+    {ends = ['a', 'b'], cost = 1, mode = 'negotiate', policy = 'pass'},
+]
+";
+
+/// The first one, where an advert counts for 1000 ticks only.
+pub const FORGETTING: &str = "timing = {interval = 100000, ttl = 1, unit = 1000, verify = 1000}
+node = [
+    {name = 'a', kind = 'station'},
+    {name = 'b', kind = 'station'},
+]
+link = [
+    {ends = ['a', 'b'], cost = 1, mode = 'negotiate'},
+]
+";
+
+/// An express stream and a preemptable flow.
+pub const EXPRESS_AND_NOT: &str = "stream = [
+    {name = 'x', vid = 10, prio = 6, route = ['a', 'b'], max = 1522, burst = 2000, rate = 100000},
+]
+flow = [
+    {name = 'y', vid = 20, prio = 0, route = ['a', 'b'], max = 1522},
+]
+";
+
+/// The same, and a flow of a higher preemptable priority.
+pub const TWO_FLOWS: &str = "stream = [
+    {name = 'x', vid = 10, prio = 6, route = ['a', 'b'], max = 1522, burst = 2000, rate = 100000},
+]
+flow = [
+    {name = 'y', vid = 20, prio = 0, route = ['a', 'b'], max = 1522},
+    {name = 'z', vid = 21, prio = 3, route = ['a', 'b'], max = 1522},
+]
+";
+
+/// An express stream of short frames, and a flow of frames of up to 2000 octets.
+pub const WIDE_FLOW: &str = "stream = [
+    {name = 'x', vid = 10, prio = 6, route = ['a', 'b'], max = 64, burst = 84, rate = 1000},
+]
+flow = [
+    {name = 'y', vid = 20, prio = 0, route = ['a', 'b'], max = 2000},
+]
+";
+
+/// A stream and a flow from two stations to the third one. The priority of the flow would be express over the link of the
+/// stream.
+pub const TO_THE_THIRD: &str = "stream = [
+    {name = 'x', vid = 10, prio = 6, route = ['a', 'm', 'b'], max = 64, burst = 84, rate = 1000},
+]
+flow = [
+    {name = 'y', vid = 20, prio = 5, route = ['c', 'm', 'b'], max = 1522},
+]
+";
