@@ -1,8 +1,7 @@
 //! Where frames are cut, and in which order their fragments go. Checks are those of Python's zlib.crc32.
 
 use crate::plants::{
-    AREAS, EXPRESS_AND_NOT, LONG_FRAGMENTS, NARROW, PREEMPTING, SLOW, TO_THE_THIRD, TWO_FLOWS,
-    WIDE, WIDE_FLOW, WIDE_WHOLE,
+    AREAS, LONG_FRAGMENTS, NARROW, PREEMPTING, SLOW, THREE_ROWS, WIDE, WIDE_WHOLE,
 };
 use crate::running::{assert_lines, assert_trace};
 use std::test::Fail;
@@ -24,13 +23,7 @@ fn a_frame_of_123_octets_is_not_cut(rt: HostRuntime) -> Result<(), Fail> {
 count a>b 0 0 1 0 0
 1000 end 2 2 0
 ";
-    assert_trace(
-        &rt,
-        rt.alloc(),
-        (PREEMPTING, EXPRESS_AND_NOT),
-        script,
-        trace,
-    )
+    assert_trace(&rt, rt.alloc(), PREEMPTING, script, trace)
 }
 
 /// The fragments have 64 octets each, their check octets included.
@@ -53,13 +46,7 @@ fn a_frame_of_124_octets_is_cut_after_60(rt: HostRuntime) -> Result<(), Fail> {
 count a>b 0 0 1 1 1
 1000 end 2 2 0
 ";
-    assert_trace(
-        &rt,
-        rt.alloc(),
-        (PREEMPTING, EXPRESS_AND_NOT),
-        script,
-        trace,
-    )
+    assert_trace(&rt, rt.alloc(), PREEMPTING, script, trace)
 }
 
 /// After 8 octets of preamble and 60 of the frame it is tick 68, the last one at which this frame can be cut.
@@ -75,14 +62,7 @@ fn a_frame_that_comes_at_the_boundary_cuts(rt: HostRuntime) -> Result<(), Fail> 
 count a>b 0 0 1 1 1
 1000 end 2 2 0
 ";
-    assert_lines(
-        &rt,
-        rt.alloc(),
-        (PREEMPTING, EXPRESS_AND_NOT),
-        script,
-        &words,
-        lines,
-    )
+    assert_lines(&rt, rt.alloc(), PREEMPTING, script, &words, lines)
 }
 
 /// At tick 69 fewer than 64 octets of the frame are left.
@@ -97,14 +77,7 @@ fn a_frame_that_comes_behind_the_boundary_waits(rt: HostRuntime) -> Result<(), F
 count a>b 0 0 1 0 0
 1000 end 2 2 0
 ";
-    assert_lines(
-        &rt,
-        rt.alloc(),
-        (PREEMPTING, EXPRESS_AND_NOT),
-        script,
-        &words,
-        lines,
-    )
+    assert_lines(&rt, rt.alloc(), PREEMPTING, script, &words, lines)
 }
 
 /// It is cut at the first boundary, and all the rest goes as one fragment.
@@ -123,14 +96,7 @@ fn a_cut_of_the_greatest_frame(rt: HostRuntime) -> Result<(), Fail> {
 count a>b 0 0 1 1 1
 2000 end 2 2 0
 ";
-    assert_lines(
-        &rt,
-        rt.alloc(),
-        (PREEMPTING, EXPRESS_AND_NOT),
-        script,
-        &words,
-        lines,
-    )
+    assert_lines(&rt, rt.alloc(), PREEMPTING, script, &words, lines)
 }
 
 /// A preemptable frame that waits goes behind an express frame that comes when the link is free again.
@@ -155,13 +121,7 @@ fn preemptable_frames_in_turn(rt: HostRuntime) -> Result<(), Fail> {
 count a>b 0 0 2 0 0
 1000 end 3 3 0
 ";
-    assert_trace(
-        &rt,
-        rt.alloc(),
-        (PREEMPTING, EXPRESS_AND_NOT),
-        script,
-        trace,
-    )
+    assert_trace(&rt, rt.alloc(), PREEMPTING, script, trace)
 }
 
 /// The fragments behind the first one count 0, 1, 2, 3 and 0 again.
@@ -201,14 +161,7 @@ fn five_cuts_in_a_row(rt: HostRuntime) -> Result<(), Fail> {
 count a>b 0 0 1 5 5
 5000 end 6 6 0
 ";
-    assert_lines(
-        &rt,
-        rt.alloc(),
-        (PREEMPTING, EXPRESS_AND_NOT),
-        script,
-        &words,
-        lines,
-    )
+    assert_lines(&rt, rt.alloc(), PREEMPTING, script, &words, lines)
 }
 
 /// The frames begun in fragments count 0, 1, 2, 3 and 0 again.
@@ -229,14 +182,7 @@ fn five_frames_in_fragments(rt: HostRuntime) -> Result<(), Fail> {
 count a>b 0 0 5 0 0
 1000 end 5 5 0
 ";
-    assert_lines(
-        &rt,
-        rt.alloc(),
-        (PREEMPTING, EXPRESS_AND_NOT),
-        script,
-        &words,
-        lines,
-    )
+    assert_lines(&rt, rt.alloc(), PREEMPTING, script, &words, lines)
 }
 
 /// Before the frame of a higher preemptable priority begins, the one that was cut is sent to its end.
@@ -254,14 +200,7 @@ fn an_interrupted_frame_goes_on_before_another(rt: HostRuntime) -> Result<(), Fa
 count a>b 0 0 2 1 1
 1000 end 3 3 0
 ";
-    assert_lines(
-        &rt,
-        rt.alloc(),
-        (PREEMPTING, TWO_FLOWS),
-        script,
-        &words,
-        lines,
-    )
+    assert_lines(&rt, rt.alloc(), THREE_ROWS, script, &words, lines)
 }
 
 /// The first fragment has 124 octets of its frame before it can be cut, which is tick 132.
@@ -280,14 +219,7 @@ fn longer_fragments(rt: HostRuntime) -> Result<(), Fail> {
 count a>b 0 0 1 1 1
 1000 end 2 2 0
 ";
-    assert_lines(
-        &rt,
-        rt.alloc(),
-        (LONG_FRAGMENTS, EXPRESS_AND_NOT),
-        script,
-        &words,
-        lines,
-    )
+    assert_lines(&rt, rt.alloc(), LONG_FRAGMENTS, script, &words, lines)
 }
 
 /// The first boundary is tick 544, so a frame that comes one tick later cuts at tick 552, after 61 octets.
@@ -306,14 +238,7 @@ fn a_boundary_at_eight_ticks_an_octet(rt: HostRuntime) -> Result<(), Fail> {
 count a>b 0 0 1 1 1
 5000 end 2 2 0
 ";
-    assert_lines(
-        &rt,
-        rt.alloc(),
-        (SLOW, EXPRESS_AND_NOT),
-        script,
-        &words,
-        lines,
-    )
+    assert_lines(&rt, rt.alloc(), SLOW, script, &words, lines)
 }
 
 /// Of three frames that come at one tick one enters.
@@ -330,7 +255,7 @@ fn rings_of_one_frame(rt: HostRuntime) -> Result<(), Fail> {
 count a>b 0 0 1 0 0
 1000 end 3 1 2
 ";
-    assert_trace(&rt, rt.alloc(), (NARROW, EXPRESS_AND_NOT), script, trace)
+    assert_trace(&rt, rt.alloc(), NARROW, script, trace)
 }
 
 /// Priority 5 is preemptable over the last link, where a frame of priority 6 cuts it after 60 octets.
@@ -354,14 +279,7 @@ count m>b 0 0 1 1 1
 count c>m 0 0 1 0 0
 5000 end 2 2 0
 ";
-    assert_lines(
-        &rt,
-        rt.alloc(),
-        (AREAS, TO_THE_THIRD),
-        script,
-        &words,
-        lines,
-    )
+    assert_lines(&rt, rt.alloc(), AREAS, script, &words, lines)
 }
 
 /// It begins at tick 0 and holds the link for 2020 ticks, preamble and gap included.
@@ -377,14 +295,7 @@ fn a_frame_of_2000_octets_goes_whole(rt: HostRuntime) -> Result<(), Fail> {
 2092 deliver b 1
 5000 end 2 2 0
 ";
-    assert_lines(
-        &rt,
-        rt.alloc(),
-        (WIDE_WHOLE, WIDE_FLOW),
-        script,
-        &words,
-        lines,
-    )
+    assert_lines(&rt, rt.alloc(), WIDE_WHOLE, script, &words, lines)
 }
 
 /// The rest of 1940 octets is one fragment, and the frame is put together.
@@ -403,5 +314,5 @@ fn a_frame_of_2000_octets_in_fragments(rt: HostRuntime) -> Result<(), Fail> {
 count a>b 0 0 1 1 1
 5000 end 2 2 0
 ";
-    assert_lines(&rt, rt.alloc(), (WIDE, WIDE_FLOW), script, &words, lines)
+    assert_lines(&rt, rt.alloc(), WIDE, script, &words, lines)
 }

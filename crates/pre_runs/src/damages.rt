@@ -1,6 +1,6 @@
 //! mPackets that are damaged on their way. Checks are those of Python's zlib.crc32.
 
-use crate::plants::{EXPRESS_AND_NOT, PREEMPTING};
+use crate::plants::PREEMPTING;
 use crate::running::{assert_lines, assert_run, assert_trace};
 use pre_base::ArcId;
 use pre_sim::Step;
@@ -16,13 +16,7 @@ fn a_changed_octet_gives_nothing(rt: HostRuntime) -> Result<(), Fail> {
 72 arrive a>b 0 nothing
 5000 end 1 0 0
 ";
-    assert_trace(
-        &rt,
-        rt.alloc(),
-        (PREEMPTING, EXPRESS_AND_NOT),
-        script,
-        trace,
-    )
+    assert_trace(&rt, rt.alloc(), PREEMPTING, script, trace)
 }
 
 /// Five octets that spell the generator of the check leave the check right, so the run stops before that arrival.
@@ -37,14 +31,7 @@ fn octets_of_the_generator_are_an_alias(rt: HostRuntime) -> Result<(), Fail> {
         arc: ArcId(0),
         ordinal: 0,
     };
-    assert_run(
-        &rt,
-        rt.alloc(),
-        (PREEMPTING, EXPRESS_AND_NOT),
-        script,
-        alias,
-        trace,
-    )
+    assert_run(&rt, rt.alloc(), PREEMPTING, script, alias, trace)
 }
 
 /// The octet 00 changes nothing, two damages that are one another undo each other, and behind the last octet there is
@@ -60,13 +47,7 @@ fn damage_without_effect(rt: HostRuntime) -> Result<(), Fail> {
 72 deliver b 0 0200000000010200000000008100c00a88b5000000000405060708090a0b0c0d0e0f101112131415161718191a1b1c1d1e1f20212223242526272829d9064e6c
 100 end 1 1 0
 ";
-    assert_trace(
-        &rt,
-        rt.alloc(),
-        (PREEMPTING, EXPRESS_AND_NOT),
-        script,
-        trace,
-    )
+    assert_trace(&rt, rt.alloc(), PREEMPTING, script, trace)
 }
 
 /// The octet D5 becomes E6. What arrives is the frame that was sent, and discards the open one.
@@ -87,14 +68,7 @@ fn an_express_frame_that_arrives_as_a_start(rt: HostRuntime) -> Result<(), Fail>
 count a>b 1 1 1 0 1
 1000 end 2 1 0
 ";
-    assert_lines(
-        &rt,
-        rt.alloc(),
-        (PREEMPTING, EXPRESS_AND_NOT),
-        script,
-        &words,
-        lines,
-    )
+    assert_lines(&rt, rt.alloc(), PREEMPTING, script, &words, lines)
 }
 
 /// The octet E6 becomes D5. A frame that was not cut is delivered, and no counter rises.
@@ -108,13 +82,7 @@ fn a_start_that_arrives_as_an_express_frame(rt: HostRuntime) -> Result<(), Fail>
 72 deliver b 0 0200000000010200000000008100001488b5000000000405060708090a0b0c0d0e0f101112131415161718191a1b1c1d1e1f202122232425262728292f97dc4f
 1000 end 1 1 0
 ";
-    assert_trace(
-        &rt,
-        rt.alloc(),
-        (PREEMPTING, EXPRESS_AND_NOT),
-        script,
-        trace,
-    )
+    assert_trace(&rt, rt.alloc(), PREEMPTING, script, trace)
 }
 
 /// The octet 61 becomes 52. The fragment is not of the open frame, and discards it.
@@ -135,14 +103,7 @@ fn a_changed_frame_count(rt: HostRuntime) -> Result<(), Fail> {
 count a>b 1 0 0 0 1
 1000 end 2 1 0
 ";
-    assert_lines(
-        &rt,
-        rt.alloc(),
-        (PREEMPTING, EXPRESS_AND_NOT),
-        script,
-        &words,
-        lines,
-    )
+    assert_lines(&rt, rt.alloc(), PREEMPTING, script, &words, lines)
 }
 
 /// What arrives spells no mPacket, and the frame stays open until the next frame in fragments.
@@ -167,14 +128,7 @@ fn a_fragment_count_that_is_none(rt: HostRuntime) -> Result<(), Fail> {
 count a>b 1 1 1 0 1
 1000 end 3 2 0
 ";
-    assert_lines(
-        &rt,
-        rt.alloc(),
-        (PREEMPTING, EXPRESS_AND_NOT),
-        script,
-        &words,
-        lines,
-    )
+    assert_lines(&rt, rt.alloc(), PREEMPTING, script, &words, lines)
 }
 
 /// The octet 61 becomes 55, and the fragment count E6 is the octet of a start. It discards the open frame and gives nothing.
@@ -195,14 +149,7 @@ fn a_continuation_that_arrives_as_a_start(rt: HostRuntime) -> Result<(), Fail> {
 count a>b 1 0 0 0 1
 1000 end 2 1 0
 ";
-    assert_lines(
-        &rt,
-        rt.alloc(),
-        (PREEMPTING, EXPRESS_AND_NOT),
-        script,
-        &words,
-        lines,
-    )
+    assert_lines(&rt, rt.alloc(), PREEMPTING, script, &words, lines)
 }
 
 /// A part whose check is wrong opens no frame.
@@ -223,14 +170,7 @@ fn a_changed_octet_of_a_fragment(rt: HostRuntime) -> Result<(), Fail> {
 count a>b 1 1 0 0 1
 1000 end 2 1 0
 ";
-    assert_lines(
-        &rt,
-        rt.alloc(),
-        (PREEMPTING, EXPRESS_AND_NOT),
-        script,
-        &words,
-        lines,
-    )
+    assert_lines(&rt, rt.alloc(), PREEMPTING, script, &words, lines)
 }
 
 /// The octets of the generator in the last fragment leave the check of the whole frame right.
@@ -253,14 +193,7 @@ fn an_alias_of_a_frame_in_fragments(rt: HostRuntime) -> Result<(), Fail> {
         arc: ArcId(0),
         ordinal: 2,
     };
-    assert_run(
-        &rt,
-        rt.alloc(),
-        (PREEMPTING, EXPRESS_AND_NOT),
-        script,
-        alias,
-        trace,
-    )
+    assert_run(&rt, rt.alloc(), PREEMPTING, script, alias, trace)
 }
 
 /// A part with the octets of the generator is no alias yet. The frame that is put together of it is one.
@@ -283,12 +216,5 @@ fn an_alias_of_a_first_fragment_comes_with_the_frame(rt: HostRuntime) -> Result<
         arc: ArcId(0),
         ordinal: 2,
     };
-    assert_run(
-        &rt,
-        rt.alloc(),
-        (PREEMPTING, EXPRESS_AND_NOT),
-        script,
-        alias,
-        trace,
-    )
+    assert_run(&rt, rt.alloc(), PREEMPTING, script, alias, trace)
 }

@@ -1,6 +1,6 @@
 //! mPackets that never arrive. Checks are those of Python's zlib.crc32.
 
-use crate::plants::{EXPRESS_AND_NOT, PREEMPTING};
+use crate::plants::PREEMPTING;
 use crate::running::assert_lines;
 use std::test::Fail;
 
@@ -32,14 +32,7 @@ fn a_lost_fragment_discards_the_frame(rt: HostRuntime) -> Result<(), Fail> {
 count a>b 1 2 1 1 5
 5000 end 7 6 0
 ";
-    assert_lines(
-        &rt,
-        rt.alloc(),
-        (PREEMPTING, EXPRESS_AND_NOT),
-        script,
-        &words,
-        lines,
-    )
+    assert_lines(&rt, rt.alloc(), PREEMPTING, script, &words, lines)
 }
 
 /// The next one has the count that is due, so that its check alone tells.
@@ -67,14 +60,7 @@ fn four_lost_fragments_in_a_row(rt: HostRuntime) -> Result<(), Fail> {
 count a>b 1 0 0 0 5
 5000 end 6 5 0
 ";
-    assert_lines(
-        &rt,
-        rt.alloc(),
-        (PREEMPTING, EXPRESS_AND_NOT),
-        script,
-        &words,
-        lines,
-    )
+    assert_lines(&rt, rt.alloc(), PREEMPTING, script, &words, lines)
 }
 
 /// The rest comes while no frame is open.
@@ -89,14 +75,7 @@ fn a_lost_first_fragment(rt: HostRuntime) -> Result<(), Fail> {
 count a>b 0 1 0 0 1
 1000 end 2 1 0
 ";
-    assert_lines(
-        &rt,
-        rt.alloc(),
-        (PREEMPTING, EXPRESS_AND_NOT),
-        script,
-        &words,
-        lines,
-    )
+    assert_lines(&rt, rt.alloc(), PREEMPTING, script, &words, lines)
 }
 
 /// The frame stays open, until the next frame in fragments discards it.
@@ -117,14 +96,7 @@ fn a_lost_last_fragment(rt: HostRuntime) -> Result<(), Fail> {
 count a>b 1 0 1 0 1
 1000 end 3 2 0
 ";
-    assert_lines(
-        &rt,
-        rt.alloc(),
-        (PREEMPTING, EXPRESS_AND_NOT),
-        script,
-        &words,
-        lines,
-    )
+    assert_lines(&rt, rt.alloc(), PREEMPTING, script, &words, lines)
 }
 
 /// It is lost alone: the frame that it cut arrives.
@@ -139,12 +111,5 @@ fn a_lost_express_frame(rt: HostRuntime) -> Result<(), Fail> {
 count a>b 0 0 1 1 1
 1000 end 2 1 0
 ";
-    assert_lines(
-        &rt,
-        rt.alloc(),
-        (PREEMPTING, EXPRESS_AND_NOT),
-        script,
-        &words,
-        lines,
-    )
+    assert_lines(&rt, rt.alloc(), PREEMPTING, script, &words, lines)
 }

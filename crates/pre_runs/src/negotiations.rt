@@ -1,6 +1,6 @@
 //! Links that negotiate. Checks are those of Python's zlib.crc32.
 
-use crate::plants::{EXPRESS_AND_NOT, FORGETTING, NEGOTIATING, PASSING};
+use crate::plants::{FORGETTING, NEGOTIATING, PASSING};
 use crate::running::{assert_lines, assert_run, assert_trace};
 use pre_base::ArcId;
 use pre_sim::Step;
@@ -38,13 +38,7 @@ fn both_ends_find_each_other(rt: HostRuntime) -> Result<(), Fail> {
 324 arrive b>a 3 lldp
 500 end 0 0 0
 ";
-    assert_trace(
-        &rt,
-        rt.alloc(),
-        (NEGOTIATING, EXPRESS_AND_NOT),
-        script,
-        trace,
-    )
+    assert_trace(&rt, rt.alloc(), NEGOTIATING, script, trace)
 }
 
 /// The frame that was cut goes on in fragments, and the next preemptable one waits. The advert cuts nothing.
@@ -75,14 +69,7 @@ fn preemption_is_switched_off(rt: HostRuntime) -> Result<(), Fail> {
 count a>b 0 0 1 1 1
 3000 end 3 2 0
 ";
-    assert_lines(
-        &rt,
-        rt.alloc(),
-        (NEGOTIATING, EXPRESS_AND_NOT),
-        script,
-        &words,
-        lines,
-    )
+    assert_lines(&rt, rt.alloc(), NEGOTIATING, script, &words, lines)
 }
 
 /// After three attempts none is made, and the preemptable frame waits.
@@ -101,14 +88,7 @@ fn three_lost_verifies(rt: HostRuntime) -> Result<(), Fail> {
 2228 begin a>b 4 V - 0
 5000 end 1 0 0
 ";
-    assert_lines(
-        &rt,
-        rt.alloc(),
-        (NEGOTIATING, EXPRESS_AND_NOT),
-        script,
-        &words,
-        lines,
-    )
+    assert_lines(&rt, rt.alloc(), NEGOTIATING, script, &words, lines)
 }
 
 /// The preemptable frame goes whole meanwhile.
@@ -129,14 +109,7 @@ fn three_lost_verifies_beside_a_whole_frame(rt: HostRuntime) -> Result<(), Fail>
 2866 begin a>b 5 V - 0
 5000 end 1 1 0
 ";
-    assert_lines(
-        &rt,
-        rt.alloc(),
-        (PASSING, EXPRESS_AND_NOT),
-        script,
-        &words,
-        lines,
-    )
+    assert_lines(&rt, rt.alloc(), PASSING, script, &words, lines)
 }
 
 /// The second attempt comes 1000 ticks after the end of the first one, and makes preemption active.
@@ -160,14 +133,7 @@ fn one_lost_verify(rt: HostRuntime) -> Result<(), Fail> {
 count a>b 0 0 1 0 0
 2000 end 1 1 0
 ";
-    assert_lines(
-        &rt,
-        rt.alloc(),
-        (NEGOTIATING, EXPRESS_AND_NOT),
-        script,
-        &words,
-        lines,
-    )
+    assert_lines(&rt, rt.alloc(), NEGOTIATING, script, &words, lines)
 }
 
 /// The octet 07 becomes 19, which is an alias.
@@ -189,14 +155,7 @@ fn a_verify_that_arrives_as_a_respond(rt: HostRuntime) -> Result<(), Fail> {
         arc: ArcId(0),
         ordinal: 1,
     };
-    assert_run(
-        &rt,
-        rt.alloc(),
-        (NEGOTIATING, EXPRESS_AND_NOT),
-        script,
-        alias,
-        trace,
-    )
+    assert_run(&rt, rt.alloc(), NEGOTIATING, script, alias, trace)
 }
 
 /// A changed octet of its data or of its check gives nothing, and no respond is owed.
@@ -213,14 +172,7 @@ fn a_verify_that_is_damaged(rt: HostRuntime) -> Result<(), Fail> {
 156 arrive a>b 1 nothing
 156 arrive b>a 1 nothing
 ";
-    assert_lines(
-        &rt,
-        rt.alloc(),
-        (NEGOTIATING, EXPRESS_AND_NOT),
-        script,
-        &words,
-        lines,
-    )
+    assert_lines(&rt, rt.alloc(), NEGOTIATING, script, &words, lines)
 }
 
 /// It counts for nothing, so that the other end makes no attempt.
@@ -247,14 +199,7 @@ fn an_advert_that_is_damaged(rt: HostRuntime) -> Result<(), Fail> {
 444 begin b>a 3 E lldp 0
 516 arrive b>a 3 lldp
 ";
-    assert_lines(
-        &rt,
-        rt.alloc(),
-        (NEGOTIATING, EXPRESS_AND_NOT),
-        script,
-        &words,
-        lines,
-    )
+    assert_lines(&rt, rt.alloc(), NEGOTIATING, script, &words, lines)
 }
 
 /// It counts for 1000 ticks, so that preemption is active until the tick before the last advert is 1000 ticks old.
@@ -282,14 +227,7 @@ fn an_advert_that_runs_out(rt: HostRuntime) -> Result<(), Fail> {
 1492 begin b>a 6 R - 0
 1500 end 1 0 0
 ";
-    assert_lines(
-        &rt,
-        rt.alloc(),
-        (FORGETTING, EXPRESS_AND_NOT),
-        script,
-        &words,
-        lines,
-    )
+    assert_lines(&rt, rt.alloc(), FORGETTING, script, &words, lines)
 }
 
 /// Its advert has no time to live, and it adverts no more until it is on again. A new verify follows.
@@ -327,14 +265,7 @@ fn an_end_that_is_gone(rt: HostRuntime) -> Result<(), Fail> {
 count a>b 0 0 1 0 0
 1600 end 1 1 0
 ";
-    assert_lines(
-        &rt,
-        rt.alloc(),
-        (NEGOTIATING, EXPRESS_AND_NOT),
-        script,
-        &words,
-        lines,
-    )
+    assert_lines(&rt, rt.alloc(), NEGOTIATING, script, &words, lines)
 }
 
 /// A respond that is owed waits for the express frames, and a frame that may not begin holds nothing up.
@@ -361,12 +292,5 @@ fn express_frames_go_before_responds(rt: HostRuntime) -> Result<(), Fail> {
 count a>b 0 0 1 0 0
 700 end 3 3 0
 ";
-    assert_lines(
-        &rt,
-        rt.alloc(),
-        (NEGOTIATING, EXPRESS_AND_NOT),
-        script,
-        &words,
-        lines,
-    )
+    assert_lines(&rt, rt.alloc(), NEGOTIATING, script, &words, lines)
 }

@@ -92,7 +92,7 @@ fn lines_with(alloc: Global, trace: &str, words: &[&str]) -> Result<String, Allo
 fn has_one(line: &str, words: &[&str]) -> bool {
     let mut found = false;
     for word in line.split_whitespace() {
-        found = found || words.contains(&word);
+        found = found || (&*words).contains(&word);
     }
     found
 }
