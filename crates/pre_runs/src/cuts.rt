@@ -1,7 +1,7 @@
 //! Where frames are cut, and in which order their fragments go. Checks are those of Python's zlib.crc32.
 
 use crate::plants::{
-    AREAS, LONG_FRAGMENTS, NARROW, PREEMPTING, SLOW, THREE_ROWS, WIDE, WIDE_WHOLE,
+    AREAS, FAR, LONG_FRAGMENTS, NARROW, PREEMPTING, SLOW, THREE_ROWS, WIDE, WIDE_WHOLE,
 };
 use crate::running::{assert_lines, assert_trace};
 use std::test::Fail;
@@ -162,6 +162,35 @@ count a>b 0 0 1 5 5
 5000 end 6 6 0
 ";
     assert_lines(&rt, rt.alloc(), PREEMPTING, script, &words, lines)
+}
+
+/// The wire takes 3000 ticks, so that all of the eleven mPackets are on it at once.
+#[test]
+fn a_long_wire(rt: HostRuntime) -> Result<(), Fail> {
+    let script =
+        "send 0 y 1522\nsend 20 x 64\nsend 180 x 64\nsend 350 x 64\nsend 520 x 64\nsend 690 x 64\nuntil 5500\n";
+    let words = ["arrive", "deliver", "count", "end"];
+    let lines = "3072 arrive a>b 0 part
+3156 arrive a>b 1 frame
+3156 deliver b 1
+3240 arrive a>b 2 part
+3324 arrive a>b 3 frame
+3324 deliver b 2
+3408 arrive a>b 4 part
+3492 arrive a>b 5 frame
+3492 deliver b 3
+3576 arrive a>b 6 part
+3660 arrive a>b 7 frame
+3660 deliver b 4
+3744 arrive a>b 8 part
+3828 arrive a>b 9 frame
+3828 deliver b 5
+5070 arrive a>b 10 frame
+5070 deliver b 0
+count a>b 0 0 1 5 5
+5500 end 6 6 0
+";
+    assert_lines(&rt, rt.alloc(), FAR, script, &words, lines)
 }
 
 /// The frames begun in fragments count 0, 1, 2, 3 and 0 again.

@@ -1,6 +1,6 @@
 //! Links that negotiate. Checks are those of Python's zlib.crc32.
 
-use crate::plants::{FORGETTING, NEGOTIATING, PASSING};
+use crate::plants::{FORGETTING, LATE, NEAR, NEGOTIATING, PASSING};
 use crate::running::{assert_lines, assert_run, assert_trace};
 use pre_base::ArcId;
 use pre_sim::Step;
@@ -132,6 +132,99 @@ fn one_lost_verify(rt: HostRuntime) -> Result<(), Fail> {
 1456 deliver b 0
 count a>b 0 0 1 0 0
 2000 end 1 1 0
+";
+    assert_lines(&rt, rt.alloc(), NEGOTIATING, script, &words, lines)
+}
+
+/// The three attempts are over when the first respond comes, which makes preemption active all the same.
+#[test]
+fn a_late_respond(rt: HostRuntime) -> Result<(), Fail> {
+    let script = "until 5000\n";
+    let words = ["begin", "arrive", "active"];
+    let lines = "0 begin a>b 0 E lldp 0
+0 begin b>a 0 E lldp 0
+1572 arrive a>b 0 lldp
+1572 arrive b>a 0 lldp
+1572 begin a>b 1 V - 0
+1572 begin b>a 1 V - 0
+1744 begin a>b 2 V - 0
+1744 begin b>a 2 V - 0
+1916 begin a>b 3 V - 0
+1916 begin b>a 3 V - 0
+3144 arrive a>b 1 verify
+3144 arrive b>a 1 verify
+3144 begin a>b 4 R - 0
+3144 begin b>a 4 R - 0
+3316 arrive a>b 2 verify
+3316 arrive b>a 2 verify
+3316 begin a>b 5 R - 0
+3316 begin b>a 5 R - 0
+3488 arrive a>b 3 verify
+3488 arrive b>a 3 verify
+3488 begin a>b 6 R - 0
+3488 begin b>a 6 R - 0
+4716 arrive a>b 4 respond
+4716 arrive b>a 4 respond
+4716 active a>b yes
+4716 active b>a yes
+4716 begin a>b 7 E lldp 0
+4716 begin b>a 7 E lldp 0
+4888 arrive a>b 5 respond
+4888 arrive b>a 5 respond
+";
+    assert_lines(&rt, rt.alloc(), LATE, script, &words, lines)
+}
+
+/// Preemption is switched off and on again, and a respond to the earlier attempt comes at tick 252, at which the new attempt
+/// begins. It does not count.
+#[test]
+fn a_respond_at_the_tick_of_the_verify(rt: HostRuntime) -> Result<(), Fail> {
+    let script = "lose b>a 1\nset 168 a>b off\nset 200 a>b on\nuntil 500\n";
+    let words = ["set", "begin", "arrive", "active"];
+    let lines = "0 begin a>b 0 E lldp 0
+0 begin b>a 0 E lldp 0
+84 arrive a>b 0 lldp
+84 arrive b>a 0 lldp
+84 begin a>b 1 V - 0
+84 begin b>a 1 V - 0
+168 set a>b off
+168 arrive a>b 1 verify
+168 arrive b>a 1 lost
+168 begin a>b 2 E lldp 0
+168 begin b>a 2 R - 0
+200 set a>b on
+252 arrive a>b 2 lldp
+252 arrive b>a 2 respond
+252 begin a>b 3 V - 0
+336 arrive a>b 3 verify
+336 begin a>b 4 E lldp 0
+336 begin b>a 3 R - 0
+420 arrive a>b 4 lldp
+420 arrive b>a 3 respond
+420 active a>b yes
+420 begin a>b 5 E lldp 0
+420 begin b>a 4 V - 0
+";
+    assert_lines(&rt, rt.alloc(), NEAR, script, &words, lines)
+}
+
+/// Nothing changes, and no advert is wanted.
+#[test]
+fn a_setting_restored_within_a_tick(rt: HostRuntime) -> Result<(), Fail> {
+    let script = "set 400 a>b off\nset 400 a>b on\nuntil 700\n";
+    let words = ["set", "begin", "active"];
+    let lines = "0 begin a>b 0 E lldp 0
+0 begin b>a 0 E lldp 0
+84 begin a>b 1 V - 0
+84 begin b>a 1 V - 0
+168 begin a>b 2 R - 0
+168 begin b>a 2 R - 0
+240 active a>b yes
+240 active b>a yes
+252 begin a>b 3 E lldp 0
+252 begin b>a 3 E lldp 0
+400 set a>b off
+400 set a>b on
 ";
     assert_lines(&rt, rt.alloc(), NEGOTIATING, script, &words, lines)
 }

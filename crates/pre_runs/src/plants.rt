@@ -51,7 +51,20 @@ link = [
     EXPRESS_AND_NOT,
 );
 
-/// The same link, and a second flow of a higher preemptable priority.
+/// The same, with a wire that takes 3000 ticks.
+pub const FAR: (&str, &str) = (
+    "node = [
+    {name = 'a', kind = 'station'},
+    {name = 'b', kind = 'station'},
+]
+link = [
+    {ends = ['a', 'b'], cost = 1, mode = 'on', delay = 3000},
+]
+",
+    EXPRESS_AND_NOT,
+);
+
+/// The first link, and a second flow of a higher preemptable priority.
 pub const THREE_ROWS: (&str, &str) = (
     "node = [
     {name = 'a', kind = 'station'},
@@ -174,7 +187,7 @@ link = [
     EXPRESS_AND_NOT,
 );
 
-/// The first one, where an advert counts for 1000 ticks only.
+/// The first link that negotiates, where an advert counts for 1000 ticks only.
 pub const FORGETTING: (&str, &str) = (
     "timing = {interval = 100000, ttl = 1, unit = 1000, verify = 1000}
 node = [
@@ -183,6 +196,34 @@ node = [
 ]
 link = [
     {ends = ['a', 'b'], cost = 1, mode = 'negotiate'},
+]
+",
+    EXPRESS_AND_NOT,
+);
+
+/// The first link that negotiates, with a wire that takes 12 ticks.
+pub const NEAR: (&str, &str) = (
+    "timing = {interval = 100000, ttl = 4, unit = 100000, verify = 1000}
+node = [
+    {name = 'a', kind = 'station'},
+    {name = 'b', kind = 'station'},
+]
+link = [
+    {ends = ['a', 'b'], cost = 1, mode = 'negotiate', delay = 12},
+]
+",
+    EXPRESS_AND_NOT,
+);
+
+/// The first link that negotiates, with a wire that takes longer than three attempts.
+pub const LATE: (&str, &str) = (
+    "timing = {interval = 100000, ttl = 4, unit = 100000, verify = 100}
+node = [
+    {name = 'a', kind = 'station'},
+    {name = 'b', kind = 'station'},
+]
+link = [
+    {ends = ['a', 'b'], cost = 1, mode = 'negotiate', delay = 1500},
 ]
 ",
     EXPRESS_AND_NOT,
