@@ -1,7 +1,8 @@
 //! Where frames are cut, and in which order their fragments go. Checks are those of Python's zlib.crc32.
 
 use crate::plants::{
-    AREAS, FAR, LONG_FRAGMENTS, NARROW, PREEMPTING, SLOW, THREE_ROWS, WIDE, WIDE_WHOLE,
+    AREAS, FAR, LONG_FRAGMENTS, NARROW, PREEMPTING, PREEMPTING_THEN_NOT, SLOW, THREE_ROWS, WIDE,
+    WIDE_WHOLE,
 };
 use crate::running::{assert_lines, assert_trace};
 use std::test::Fail;
@@ -309,6 +310,33 @@ count c>m 0 0 1 0 0
 5000 end 2 2 0
 ";
     assert_lines(&rt, rt.alloc(), AREAS, script, &words, lines)
+}
+
+/// The bridge puts it together, and over the second link it holds up the next express frame.
+#[test]
+fn a_frame_in_fragments_goes_on_whole(rt: HostRuntime) -> Result<(), Fail> {
+    let script = "send 0 y 300\nsend 1 x 64\nsend 400 x 64\nuntil 1500\n";
+    let words = ["enter", "begin", "deliver", "count", "end"];
+    let lines = "0 enter a>m 0 0
+0 begin a>m 0 S0 0 0
+1 enter a>m 6 1
+84 begin a>m 1 E 1 0
+156 enter m>b 6 1
+156 begin m>b 0 E 1 0
+168 begin a>m 2 C0.0 0 60
+228 deliver b 1
+400 enter a>m 6 2
+416 enter m>b 0 0
+416 begin m>b 1 E 0 0
+428 begin a>m 3 E 2 0
+500 enter m>b 6 2
+724 deliver b 0
+736 begin m>b 2 E 2 0
+808 deliver b 2
+count a>m 0 0 1 1 1
+1500 end 3 3 0
+";
+    assert_lines(&rt, rt.alloc(), PREEMPTING_THEN_NOT, script, &words, lines)
 }
 
 /// It begins at tick 0 and holds the link for 2020 ticks, preamble and gap included.

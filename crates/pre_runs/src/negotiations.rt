@@ -295,6 +295,23 @@ fn an_advert_that_is_damaged(rt: HostRuntime) -> Result<(), Fail> {
     assert_lines(&rt, rt.alloc(), NEGOTIATING, script, &words, lines)
 }
 
+/// The octets of the generator leave the check of an advert right. At one tick the arrivals of lesser arcs come first.
+#[test]
+fn an_advert_that_is_an_alias(rt: HostRuntime) -> Result<(), Fail> {
+    let script = "damage b>a 0 20 410671db01\nuntil 500\n";
+    let trace = "0 begin a>b 0 E lldp 0
+0 begin b>a 0 E lldp 0
+72 ended a>b 0 64 09c9be8b
+72 ended b>a 0 64 ce4aecad
+72 arrive a>b 0 lldp
+";
+    let alias = Step::Alias {
+        arc: ArcId(1),
+        ordinal: 0,
+    };
+    assert_run(&rt, rt.alloc(), NEGOTIATING, script, alias, trace)
+}
+
 /// It counts for 1000 ticks, so that preemption is active until the tick before the last advert is 1000 ticks old.
 #[test]
 fn an_advert_that_runs_out(rt: HostRuntime) -> Result<(), Fail> {

@@ -28,6 +28,15 @@ flow = [
 ]
 ";
 
+/// A stream and a flow by way of the bridge.
+const BY_THE_BRIDGE: &str = "stream = [
+    {name = 'x', vid = 10, prio = 6, route = ['a', 'm', 'b'], max = 64, burst = 84, rate = 1000},
+]
+flow = [
+    {name = 'y', vid = 20, prio = 0, route = ['a', 'm', 'b'], max = 1522},
+]
+";
+
 /// A stream and a flow from two stations to the third one. The priority of the flow would be express over the link of the
 /// stream.
 const TO_THE_THIRD: &str = "stream = [
@@ -157,6 +166,21 @@ link = [
 ]
 ",
     TO_THE_THIRD,
+);
+
+/// A bridge without latency between two stations. The first link preempts, and the second does not.
+pub const PREEMPTING_THEN_NOT: (&str, &str) = (
+    "node = [
+    {name = 'a', kind = 'station'},
+    {name = 'm', kind = 'bridge', latency = 0},
+    {name = 'b', kind = 'station'},
+]
+link = [
+    {ends = ['a', 'm'], cost = 1, mode = 'on'},
+    {ends = ['m', 'b'], cost = 1, mode = 'off'},
+]
+",
+    BY_THE_BRIDGE,
 );
 
 /// Two stations and a link that negotiates, over which preemptable frames wait until preemption is active.
