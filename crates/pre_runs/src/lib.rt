@@ -1,0 +1,15 @@
+//! Worked examples of runs with fragments, losses, damage and negotiation: their traces, as worked out apart from the program.
+#![tactic(auto)]
+
+#[cfg(test)]
+mod cuts;
+#[cfg(test)]
+mod damages;
+#[cfg(test)]
+mod losses;
+#[cfg(test)]
+mod negotiations;
+#[cfg(test)]
+mod plants;
+#[cfg(test)]
+mod running;
