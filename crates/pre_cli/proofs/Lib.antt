@@ -22,3 +22,4 @@ pub mod DueVerdicts
 pub mod CurveLemmas
 pub mod HeadlineLemmas
 pub mod DueReplaying
+pub mod Replayeds

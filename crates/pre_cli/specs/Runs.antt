@@ -4,11 +4,16 @@ use Rattle.pre_base.specs.Faults.{Rose}
 use Rattle.pre_base.specs.Told.{WhereTold}
 use Rattle.pre_base.specs.Sinks.{Taken}
 use Rattle.pre_history.specs.Scenario.{Scenario}
+use Rattle.pre_sim.specs.Reach.{CanRun}
 use Rattle.pre_sim.specs.declared.runs.Step.{Step}
 use Rattle.pre_sim.specs.declared.runs.Step.TheVariants.{More, Ended, Alias, Stopped, Memory}
 use Rattle.pre_cli.specs.declared.statuses.Status.{Status}
 use Rattle.pre_cli.specs.declared.statuses.Status.TheVariants as status
 use Rattle.pre_cli.specs.Written.{TakesText, TakesTrace, TakesTextFront}
+
+-- what can be run so far
+abbrev pub IsRunnable : Scenario → Type 0
+IsRunnable w = CanRun w.net w.streams w.script
 
 abbrev pub RunLeaves : Scenario → Step → Option Taken → Option Taken → Type 0
 RunLeaves w More old new = ⊥

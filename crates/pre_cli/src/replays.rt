@@ -4,7 +4,6 @@ ghost use Rattle.pre_bound.specs.Listed.{GoodCertificate};
 ghost use Rattle.pre_delay.specs.Runs.{IsRun};
 ghost use Rattle.pre_script.specs.Fits as lines;
 ghost use Rattle.pre_streams.specs.Fits as rows;
-ghost use Rattle.pre_sim.specs.Reach.{CanRun};
 ghost use Rattle.pre_sim.specs.Steps.{StepTells, StepCause};
 ghost use Rattle.pre_cli.specs.Certifying.{OfFiles, InPlace, IsNoFile};
 ghost use Rattle.pre_cli.specs.Curves.{CurvesHold, LinesRise};
@@ -12,7 +11,7 @@ ghost use Rattle.pre_cli.specs.Negotiating.{first_negotiating_link};
 ghost use Rattle.pre_cli.specs.Readings.{Instead, AnswerCause};
 ghost use Rattle.pre_cli.specs.Replaying.{run_network_in, planned_in, scripted_in, replaying, IsScriptIn, ScriptRefused, ReplayingLeaves};
 ghost use Rattle.pre_cli.specs.Replaying as replaying;
-ghost use Rattle.pre_cli.specs.Runs.{RunLeaves, RunEnds, RunCause, FlushEnds};
+ghost use Rattle.pre_cli.specs.Runs.{IsRunnable, RunLeaves, RunEnds, RunCause, FlushEnds};
 ghost use Rattle.pre_cli.specs.Words.{judge_words, replay_words};
 
 use crate::certifying::{file_text, network_named};
@@ -54,7 +53,7 @@ pub(crate) fn run<S: Sink>(
     script: &Script,
     sink: &mut S,
 ) -> Step
-    requires { CanRun net.now streams.now script.now }
+    requires { IsRunnable (record { net = net.now; streams = streams.now; script = script.now }) }
     ensures last { result ≢ Step.More }
     ensures cause { StepCause result (S.faults sink.old) (S.faults sink.new) }
     ensures octets { RunLeaves (record { net = net.now; streams = streams.now; script = script.now }) result (S.tells sink.old) (S.tells sink.new) }
@@ -87,7 +86,7 @@ fn trace<S: Sink>(
     script: &Script,
     sink: &mut S,
 ) -> Status
-    requires { CanRun net.now streams.now script.now }
+    requires { IsRunnable (record { net = net.now; streams = streams.now; script = script.now }) }
     ensures ends { RunEnds (record { net = net.now; streams = streams.now; script = script.now }) result (S.tells sink.old) (S.tells sink.new) }
     ensures cause { RunCause result (S.faults sink.old) (S.faults sink.new) }
 {
@@ -209,7 +208,7 @@ fn scripted_named<H: Shelf>(
     script_word: &str,
     shelf: &mut H,
 ) -> Result<Input, Status>
-    ensures can { IfOk result (λ x. CanRun x.planned.net x.planned.certified.streams x.script) }
+    ensures can { IfOk result (λ x. IsRunnable (record { net = x.planned.net; streams = x.planned.certified.streams; script = x.script })) }
     ensures good { IfOk result (λ x. GoodCertificate x.planned.net x.planned.certified.streams x.planned.certified.certificate) }
     ensures rise { IfOk result (λ x. LinesRise x.script.sends) }
     ensures scripted { IfOk result (λ x. WhereTold (H.tells shelf.old) (H.tells shelf.new) (OfFiles ((scripted_in (replay_words net_word.now streams_word.now certificate_word.now script_word.now)).gives ((x.planned.net, (x.planned.certified.streams, x.planned.certified.certificate)), x.script)))) }
@@ -240,7 +239,7 @@ fn input_named<H: Shelf>(
     script_word: &str,
     shelf: &mut H,
 ) -> Result<Input, Status>
-    ensures can { IfOk result (λ x. CanRun x.planned.net x.planned.certified.streams x.script) }
+    ensures can { IfOk result (λ x. IsRunnable (record { net = x.planned.net; streams = x.planned.certified.streams; script = x.script })) }
     ensures good { IfOk result (λ x. GoodCertificate x.planned.net x.planned.certified.streams x.planned.certified.certificate) }
     ensures curves { IfOk result (λ x. CurvesHold x.planned.certified.streams.rows x.script.sends) }
     ensures input { IfOk result (λ x. WhereTold (H.tells shelf.old) (H.tells shelf.new) (OfFiles ((replaying (replay_words net_word.now streams_word.now certificate_word.now script_word.now)).gives ((x.planned.net, (x.planned.certified.streams, x.planned.certified.certificate)), x.script)))) }
