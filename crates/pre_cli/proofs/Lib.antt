@@ -21,3 +21,4 @@ pub mod DueVerdicts
 pub mod CurveLemmas
 pub mod HeadlineLemmas
 pub mod DueReplaying
+pub mod Replayeds

@@ -3,6 +3,7 @@ use Rattle.std.specs.Prelude.{◌≡◌, ◌≢◌, ◌⊎◌, ℕ, List, Some, 
 use Rattle.std.specs.FinMap.{get}
 use Rattle.pre_base.specs.Shelves.{Files}
 use Rattle.pre_base.specs.declared.numbers.ArcId.{ArcId}
+use Rattle.pre_base.specs.Sinks.{Taken}
 use Rattle.pre_topo.specs.declared.network.Network.{Network}
 use Rattle.pre_streams.specs.declared.rows.Streams.{Streams}
 use Rattle.pre_bound.specs.declared.certificate.Certificate.{Certificate}
@@ -91,3 +92,10 @@ pub record ReplayingLeaves (words : ReplayWords) (s : Status) (o : Outside) : Ty
   pub torn : s ≡ status.WriteFault → Took (replaying words) o (λ x. TakesTextFront (scenario_in x))
   pub stopped : s ≡ status.Memory → (o.taken_after ≡ o.taken_before) ⊎ Took (replaying words) o (λ x. TakesTextFront (scenario_in x))
   pub nothing : s ≢ status.Done → s ≢ status.WriteFault → s ≢ status.Memory → ((arc : ArcId) (ordinal : ℕ) → s ≢ status.Alias arc ordinal) → o.taken_after ≡ o.taken_before
+
+-- What that means where the shelf tells these files, and the sink what it had and what it has: on Done the files spell a network,
+-- streams, a certificate and a script, of which the headline holds.
+pub record Replayed (words : ReplayWords) (files : Files) (old new : Taken) : Type 0 where
+  pub read : Replay
+  pub files_spell_it : (replaying words).gives read files
+  pub headline : Headline (scenario_in read) (certificate_in read) old new

@@ -18,7 +18,7 @@ mod statuses;
 
 pub use certifying_laws::due_certificates;
 pub use judging_laws::due_verdicts;
-pub use laws::{due_answers, one_trace};
+pub use laws::{due_answers, headline, one_trace};
 pub use listing_laws::due_listings;
 pub use preempts::preempt;
 pub use statuses::{FileWord, Status, put_status};
