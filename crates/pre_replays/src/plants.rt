@@ -20,17 +20,9 @@ pub const NARROW_OFF: &str =
 pub const FAR: &str =
     "express_from = 4\n[[node]]\nname = \"a\"\nkind = \"station\"\n[[node]]\nname = \"b\"\nkind = \"station\"\n[[link]]\nends = [\"a\", \"b\"]\ncost = 1\ndelay = 6000\nmode = \"off\"\nrings = [1, 1, 1, 1, 1, 1, 1, 1]\n";
 
-/// Two stations and a link that negotiates.
-pub const NEGOTIATED: &str =
-    "express_from = 4\n[[node]]\nname = \"a\"\nkind = \"station\"\n[[node]]\nname = \"b\"\nkind = \"station\"\n[[link]]\nends = [\"a\", \"b\"]\ncost = 1\nmode = \"negotiate\"\nrings = [64, 64, 64, 64, 64, 64, 64, 64]\n";
-
 /// A bridge between two stations.
 pub const BRIDGED: &str =
     "express_from = 4\n[[node]]\nname = \"a\"\nkind = \"station\"\n[[node]]\nname = \"m\"\nkind = \"bridge\"\nlatency = 100\n[[node]]\nname = \"b\"\nkind = \"station\"\n[[link]]\nends = [\"a\", \"m\"]\ncost = 1\nmode = \"on\"\nrings = [64, 64, 64, 64, 64, 64, 64, 64]\n[[link]]\nends = [\"m\", \"b\"]\ncost = 1\nmode = \"on\"\nrings = [64, 64, 64, 64, 64, 64, 64, 64]\n";
-
-/// The same, where the second link negotiates.
-pub const HALF_NEGOTIATED: &str =
-    "express_from = 4\n[[node]]\nname = \"a\"\nkind = \"station\"\n[[node]]\nname = \"m\"\nkind = \"bridge\"\nlatency = 100\n[[node]]\nname = \"b\"\nkind = \"station\"\n[[link]]\nends = [\"a\", \"m\"]\ncost = 1\nmode = \"on\"\nrings = [64, 64, 64, 64, 64, 64, 64, 64]\n[[link]]\nends = [\"m\", \"b\"]\ncost = 1\nmode = \"negotiate\"\nrings = [64, 64, 64, 64, 64, 64, 64, 64]\n";
 
 /// The built-in stream and flow.
 pub const TWO_ROWS: &str =

@@ -1,8 +1,6 @@
 //! Files that are refused, and which one is answered.
 
-use crate::plants::{
-    BRIDGED, BY_BRIDGE, HALF_NEGOTIATED, NARROW, NEGOTIATED, OFF, SHORT_ROWS, TWO_ROWS, TWO_STREAMS,
-};
+use crate::plants::{BRIDGED, BY_BRIDGE, NARROW, OFF, SHORT_ROWS, TWO_ROWS, TWO_STREAMS};
 use crate::running::{EXAMPLE, assert_status, replayed_over, shelf_with, wide_sink, words_of};
 use pre_cli::preempt;
 use std::test::Fail;
@@ -24,8 +22,6 @@ fn each_file_in_its_turn(rt: HostRuntime) -> Result<(), Fail> {
         ("[", "[", "", 4, "form net 0 1"),
         ("node = []", "[", "", 5, "rules net top 2"),
         ("node = []\nlink = []", "[", "", 5, "rules net top 6"),
-        (NEGOTIATED, "[", "", 5, "rules net link 0 5"),
-        (HALF_NEGOTIATED, "[", "", 5, "rules net link 1 5"),
         (NARROW, "[", "", 4, "form streams 0 1"),
         (NARROW, SHORT_BURST, "", 5, "rules streams stream 0 6"),
         (NARROW, LONG_FRAME, "", 5, "rules streams stream 0 7"),

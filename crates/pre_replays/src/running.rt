@@ -55,22 +55,39 @@ pub fn replayed<S: Sink>(alloc: Global, script: &str, sink: &mut S) -> Result<St
     Ok(preempt(alloc, words.as_slice(), &mut shelf, sink))
 }
 
+/// A shelf with a network and streams, in files `net` and `streams`, their least certificate in `cert`, which is empty where
+/// there is none, and a script, in `script`.
+pub fn shelf_over(
+    alloc: Global,
+    (net, streams): (&str, &str),
+    script: &str,
+) -> Result<MemoryShelf, AllocError> {
+    let mut shelf = shelf_with(alloc, script.as_bytes())?;
+    shelf.put("net", net.as_bytes())?;
+    shelf.put("streams", streams.as_bytes())?;
+    let certificate = certificate_of(alloc, &mut shelf)?;
+    shelf.put("cert", certificate.octets())?;
+    Ok(shelf)
+}
+
+/// A sink with the least certificate of the files `net` and `streams`.
+pub fn certificate_of(alloc: Global, shelf: &mut MemoryShelf) -> Result<MemorySink, AllocError> {
+    let mut certificate = wide_sink(alloc)?;
+    let words = words_of(alloc, "certify net streams")?;
+    let _ = preempt(alloc, words.as_slice(), shelf, &mut certificate);
+    Ok(certificate)
+}
+
 /// Does a command over the network of a file `net`, the streams of a file `streams`, their least certificate in a file `cert`,
 /// which is empty where there is none, and the script of a file `script`.
 pub fn replayed_over<S: Sink>(
     alloc: Global,
-    (net, streams): (&str, &str),
+    plant: (&str, &str),
     script: &str,
     words: &str,
     sink: &mut S,
 ) -> Result<Status, AllocError> {
-    let mut shelf = shelf_with(alloc, script.as_bytes())?;
-    shelf.put("net", net.as_bytes())?;
-    shelf.put("streams", streams.as_bytes())?;
-    let mut certificate = wide_sink(alloc)?;
-    let certifies = words_of(alloc, "certify net streams")?;
-    let _ = preempt(alloc, certifies.as_slice(), &mut shelf, &mut certificate);
-    shelf.put("cert", certificate.octets())?;
+    let mut shelf = shelf_over(alloc, plant, script)?;
     let words = words_of(alloc, words)?;
     Ok(preempt(alloc, words.as_slice(), &mut shelf, sink))
 }

@@ -1,7 +1,9 @@
 //! Whole runs and their traces.
 
 use crate::plants::{OFF, TWO_ROWS};
-use crate::running::{EXAMPLE, EXAMPLE_TRACE, assert_trace, replayed_over, wide_sink};
+use crate::running::{
+    EXAMPLE, EXAMPLE_TRACE, assert_status, assert_trace, replayed, replayed_over, wide_sink,
+};
 use std::test::Fail;
 
 #[test]
@@ -33,6 +35,19 @@ fn two_frames_back_to_back(rt: HostRuntime) -> Result<(), Fail> {
 156 end 2 2 0
 ";
     assert_trace(&rt, rt.alloc(), script, trace)?;
+    Ok(())
+}
+
+/// Five octets that change the check as the frame's other octets do: the check holds, and the frame isn't the one that was sent.
+#[test]
+fn a_damage_that_no_check_finds(rt: HostRuntime) -> Result<(), Fail> {
+    let alloc = rt.alloc();
+    let script = "send 0 x 64\ndamage a>b 0 30 410671db01\nuntil 5000\n";
+    let mut sink = wide_sink(alloc)?;
+    let status = replayed(alloc, script, &mut sink)?;
+    assert_status(&rt, alloc, &status, 9, "alias 0 0")?;
+    let trace = "0 enter a>b 6 0\n0 begin a>b 0 E 0 0\n72 ended a>b 0 64 d9064e6c\n";
+    assert_eq!(rt; sink.octets(), trace.as_bytes());
     Ok(())
 }
 
