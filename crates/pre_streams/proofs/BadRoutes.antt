@@ -32,7 +32,8 @@ module _ (rows : List RawFlow) (i : ℕ) (r : RawFlow) (here : r ≡ get_or rows
       ∙ ap (slice_get rows) (sym (first_is ∙ ap (λ a. unwrap_or a i) (places r.vid)))
 
   -- the places, after one more row
-  pub places_more : (old new : FirstPlaces) → ArePlaces old (take i rows) → ((w : Whole) → place_of new w ≡ option_or (place_of old w) (cond (same_whole r.vid w) (Some i) None)) → ArePlaces new (take (i + 1) rows)
+  pub places_more : (old new : FirstPlaces) → ArePlaces old (take i rows) →
+      ((w : Whole) → place_of new w ≡ option_or (place_of old w) (cond (same_whole r.vid w) (Some i) None)) → ArePlaces new (take (i + 1) rows)
   places_more old new places kept w =
       kept w
       ∙ ap (λ a. option_or a (cond (same_whole r.vid w) (Some i) None)) (places w)

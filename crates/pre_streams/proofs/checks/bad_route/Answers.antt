@@ -9,11 +9,13 @@ loop-place-init c = record { firsts = c.new-firsts.ensures; good = λ k e h. abs
 
 pub hop_fault-requires : goal.hop_fault-requires
 hop_fault-requires c =
-    first_found c.args.rows.now c.loop-place.place c.index-rows-place.result c.index-rows-place.is c.loop-place-test.true c.loop-place.firsts c.in_ok-first.first c.loop-place.invariant.firsts c.in_ok-first.ensures.place
+    first_found c.args.rows.now c.loop-place.place c.index-rows-place.result c.index-rows-place.is c.loop-place-test.true
+    c.loop-place.firsts c.in_ok-first.first c.loop-place.invariant.firsts c.in_ok-first.ensures.place
 
 pub returns-in-Some : goal.returns-in-Some
 returns-in-Some c =
-    sym (route_at c.args.net.now c.args.rows.now c.loop-place.place c.loop-place.invariant.good c.index-rows-place.result c.in-Some.hop c.index-rows-place.is c.loop-place-test.true (sym c.hop_fault.ensures ∙ c.in-Some.is))
+    sym (route_at c.args.net.now c.args.rows.now c.loop-place.place c.loop-place.invariant.good c.index-rows-place.result c.in-Some.hop
+    c.index-rows-place.is c.loop-place-test.true (sym c.hop_fault.ensures ∙ c.in-Some.is))
 
 pub loop-place-preserved : goal.loop-place-preserved
 loop-place-preserved c =
