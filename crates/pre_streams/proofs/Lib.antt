@@ -1,3 +1,5 @@
+mod BadRoutes
+mod FoundPlaces
 pub mod RowNames
 mod Found
 mod PairFits

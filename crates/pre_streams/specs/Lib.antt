@@ -1,3 +1,4 @@
+pub mod FirstPlaces
 pub mod Rows
 pub mod Fits
 pub mod Hops

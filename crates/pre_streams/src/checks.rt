@@ -1,11 +1,12 @@
-ghost use Rattle.std.specs.Prelude.{◌≡◌, ◌<◌, length, position, is_some, slice_get, true, nat_lt, ◌+◌, IfOk};
+ghost use Rattle.std.specs.Prelude.{◌≡◌, ◌<◌, length, slice_get, true, nat_lt, ◌+◌, IfOk};
 ghost use Rattle.std.specs.Option.{option_map_or};
 ghost use Rattle.pre_base.specs.declared.limits.TheConstants.{OVERHEAD};
 ghost use Rattle.pre_table.specs.FirstFaults.{first_row};
-ghost use Rattle.pre_streams.specs.FileRules.{name_breaks, row_at, hop_fault, bad_route, class_rule, class_breaks, length_in_range, curve_in_range, row_in_range, is_carried, range_breaks, burst_breaks, name_fault, route_fault, class_fault, range_fault, burst_fault, counts_hold, raw_fault};
+ghost use Rattle.pre_streams.specs.FileRules.{name_breaks, row_at, bad_route, class_rule, class_breaks, length_in_range, curve_in_range, row_in_range, is_carried, range_breaks, burst_breaks, name_fault, route_fault, class_fault, range_fault, burst_fault, counts_hold, raw_fault};
 
 use crate::StreamFault;
 use crate::arc_rules::{ArcRule, holds_along};
+use crate::first_places::FirstPlaces;
 use crate::raw::{RawCurve, RawFlow, RawStreams};
 use crate::routes::hop_fault;
 use pre_base::{FileRow, GREATEST_FRAME, LEAST_FRAME, OVERHEAD};
@@ -47,35 +48,37 @@ fn name_fault(alloc: Global, raw: &RawStreams) -> Result<Option<StreamFault>, Al
     Ok(Some(StreamFault::Name { row }))
 }
 
-fn has_bad_route(net: &Network, rows: &[RawFlow], row: &RawFlow) -> bool
-    ensures { result ≡ is_some (hop_fault net.now rows.now row.now) }
+fn bad_route(
+    alloc: Global,
+    net: &Network,
+    rows: &[RawFlow],
+) -> Result<Option<(usize, usize)>, AllocError>
+    ensures { IfOk result (λ at. at ≡ bad_route net.now rows.now) }
 {
-    hop_fault(net, rows, row).is_some()
-}
-
-fn row_of_bad_route(net: &Network, rows: &[RawFlow]) -> Option<usize>
-    ensures { result ≡ position (λ r. is_some (hop_fault net.now rows.now r)) rows.now }
-{
-    rows.iter().position(|row| has_bad_route(net, rows, row))
-}
-
-fn bad_route(net: &Network, rows: &[RawFlow]) -> Option<(usize, usize)>
-    ensures { result ≡ bad_route net.now rows.now }
-{
-    let place = row_of_bad_route(net, rows)?;
-    let row = rows.get(place)?;
-    let hop = hop_fault(net, rows, row)?;
-    Some((place, hop))
+    let mut firsts = FirstPlaces::new(alloc);
+    for (place, row) in rows.iter().enumerate() {
+        let first = firsts.first(row.vid, place)?;
+        if let Some(hop) = hop_fault(net, rows, first, row) {
+            return Ok(Some((place, hop)));
+        }
+    }
+    Ok(None)
 }
 
 #[tactic(auto, unfolding(crate::specs::FileRules::route_fault))]
-fn route_fault(net: &Network, raw: &RawStreams) -> Option<StreamFault>
-    ensures { result ≡ route_fault net.now raw.now }
+fn route_fault(
+    alloc: Global,
+    net: &Network,
+    raw: &RawStreams,
+) -> Result<Option<StreamFault>, AllocError>
+    ensures { IfOk result (λ fault. fault ≡ route_fault net.now raw.now) }
 {
-    let (place, hop) = bad_route(net, raw.rows.as_slice())?;
+    let Some((place, hop)) = bad_route(alloc, net, raw.rows.as_slice())? else {
+        return Ok(None);
+    };
     let row = row_at(raw.curves.len(), place);
     let hop = hop as u64;
-    Some(StreamFault::Route { row, hop })
+    Ok(Some(StreamFault::Route { row, hop }))
 }
 
 fn class_rule(curves: &[RawCurve], place: usize, row: &RawFlow) -> ArcRule
@@ -224,7 +227,7 @@ pub(crate) fn raw_fault(
     if let Some(fault) = name_fault(alloc, raw)? {
         return Ok(Some(fault));
     }
-    if let Some(fault) = route_fault(net, raw) {
+    if let Some(fault) = route_fault(alloc, net, raw)? {
         return Ok(Some(fault));
     }
     if let Some(fault) = class_fault(net, raw) {

@@ -6,6 +6,7 @@ mod building;
 mod checks;
 mod faults;
 mod fields;
+mod first_places;
 mod laws;
 mod lookups;
 mod pairs;

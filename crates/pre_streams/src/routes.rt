@@ -1,4 +1,4 @@
-ghost use Rattle.std.specs.Prelude.{◌≡◌, ◌==◌, ◌+◌, ◌<◌, ◌^◌, length, option_map, position, is_some, not};
+ghost use Rattle.std.specs.Prelude.{◌≡◌, ◌==◌, ◌+◌, ◌<◌, ◌^◌, length, position, is_some, not, slice_get};
 ghost use Rattle.std.specs.List.{list_any, find, common_prefix_len};
 ghost use Rattle.std.specs.Str.{bytes_eq};
 ghost use Rattle.pre_table.specs.FirstFaults.{first_row};
@@ -7,7 +7,6 @@ ghost use Rattle.pre_streams.specs.FileRules.{is_station, is_station_at, is_end,
 
 use crate::raw::RawFlow;
 use pre_base::Name;
-use pre_table::Whole;
 use pre_topo::{Arc, Network, Node, NodeKind};
 
 pub(crate) fn is_same(a: &Name, b: &Name) -> bool
@@ -160,27 +159,29 @@ fn difference(a: &[Name], b: &[Name]) -> Option<usize>
     }
 }
 
-fn first_of_vid(rows: &[RawFlow], vid: Whole) -> Option<&RawFlow>
-    ensures { option_map (λ r. r.now) result ≡ find (has_vid vid) rows.now }
-{
-    rows.iter().find(|row| row.vid.is(vid))
-}
-
-fn other_route(rows: &[RawFlow], row: &RawFlow) -> Option<usize>
+/// Where the row's route differs from that of the first row of its VID, which stands at this place.
+fn other_route(rows: &[RawFlow], first: usize, row: &RawFlow) -> Option<usize>
+    requires { find (has_vid row.now.vid) rows.now ≡ slice_get rows.now first }
     ensures { result ≡ other_route rows.now row.now }
 {
-    match first_of_vid(rows, row.vid) {
+    match rows.get(first) {
         None => None,
         Some(first) => difference(first.route.as_slice(), row.route.as_slice()),
     }
 }
 
-/// The first entry of the row's route that breaks a rule.
-pub(crate) fn hop_fault(net: &Network, rows: &[RawFlow], row: &RawFlow) -> Option<usize>
+/// The first entry of the row's route that breaks a rule, where the first row of its VID stands at this place.
+pub(crate) fn hop_fault(
+    net: &Network,
+    rows: &[RawFlow],
+    first: usize,
+    row: &RawFlow,
+) -> Option<usize>
+    requires { find (has_vid row.now.vid) rows.now ≡ slice_get rows.now first }
     ensures { result ≡ hop_fault net.now rows.now row.now }
 {
     if let Some(hop) = bad_entry(net, row.route.as_slice()) {
         return Some(hop);
     }
-    other_route(rows, row)
+    other_route(rows, first, row)
 }

@@ -21,7 +21,8 @@ once false true = refl
 once false false = refl
 
 module _ {K : Type 0} (cmp : K → K → Ordering) (test : K → Bool) (k : K) (same : (x : K) → cmp k x ≡ Equal → test x ≡ test k) where
-  placed : (x : K) (xs : List K) → list_any test (insert_key cmp xs k) ≡ (list_any test xs || test k) → (o : Ordering) → cmp k x ≡ o → list_any test (insert_key cmp (x ∷ xs) k) ≡ ((test x || list_any test xs) || test k)
+  placed : (x : K) (xs : List K) → list_any test (insert_key cmp xs k) ≡ (list_any test xs || test k) →
+      (o : Ordering) → cmp k x ≡ o → list_any test (insert_key cmp (x ∷ xs) k) ≡ ((test x || list_any test xs) || test k)
   placed x xs further Less is = rw is (last_first (test k) (test x || list_any test xs))
   placed x xs further Equal is = rw is (once (test x) (list_any test xs) ∙ ap (λ b. (test x || list_any test xs) || b) (same x is))
   placed x xs further Greater is = rw is (ap (λ b. test x || b) further ∙ joined (test x) (list_any test xs) (test k))

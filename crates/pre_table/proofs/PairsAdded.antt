@@ -15,11 +15,13 @@ use Rattle.pre_table.specs.declared.text_sets.PairSet.{PairSet}
 use Rattle.pre_table.specs.TextSets.{HasPairs}
 use Rattle.pre_table.proofs.Inserted.{any_inserted}
 
-pub HasPairs-from : (set : PairSet) (has : List ℕ → List ℕ → Bool) → ((a b : List ℕ) → list_any (λ k. bytes_eq a (string_bytes k.0) && bytes_eq b (string_bytes k.1)) set.pairs.keys ≡ has a b) → HasPairs set has
+pub HasPairs-from : (set : PairSet) (has : List ℕ → List ℕ → Bool) →
+    ((a b : List ℕ) → list_any (λ k. bytes_eq a (string_bytes k.0) && bytes_eq b (string_bytes k.1)) set.pairs.keys ≡ has a b) → HasPairs set has
 unfolding HasPairs
 HasPairs-from set has h = h
 
-pub HasPairs-has : (set : PairSet) (has : List ℕ → List ℕ → Bool) → HasPairs set has → (a b : List ℕ) → list_any (λ k. bytes_eq a (string_bytes k.0) && bytes_eq b (string_bytes k.1)) set.pairs.keys ≡ has a b
+pub HasPairs-has : (set : PairSet) (has : List ℕ → List ℕ → Bool) → HasPairs set has →
+    (a b : List ℕ) → list_any (λ k. bytes_eq a (string_bytes k.0) && bytes_eq b (string_bytes k.1)) set.pairs.keys ≡ has a b
 unfolding HasPairs
 HasPairs-has set has h = h
 
@@ -52,7 +54,8 @@ any_same p q h [] = refl
 any_same p q h (x ∷ xs) = ap₂ (λ a b. a || b) (h x) (any_same p q h xs)
 
 -- whether a pair is in the set
-pub pair_found : (set : PairSet) (has : List ℕ → List ℕ → Bool) → HasPairs set has → (k : Texts) (a b : List ℕ) → string_bytes k.0 ≡ a → string_bytes k.1 ≡ b → list_any (is_at (pair_cmp k)) set.pairs.keys ≡ has a b
+pub pair_found : (set : PairSet) (has : List ℕ → List ℕ → Bool) → HasPairs set has →
+    (k : Texts) (a b : List ℕ) → string_bytes k.0 ≡ a → string_bytes k.1 ≡ b → list_any (is_at (pair_cmp k)) set.pairs.keys ≡ has a b
 pair_found set has held k a b left right =
     any_same (is_at (pair_cmp k)) (is_pair (string_bytes k.0) (string_bytes k.1)) (compared k) set.pairs.keys
     ∙ HasPairs-has set has held (string_bytes k.0) (string_bytes k.1)

@@ -10,4 +10,5 @@ returns-clause-added c =
 
 pub returns-clause-first : goal.returns-clause-first
 returns-clause-first c =
-    λ has held. c.in_ok-added.ensures.added ∙ ap not (pair_found c.args.self.now has held (c.in_ok-left.left, c.in_ok-right.right) c.args.first.now c.args.second.now c.in_ok-left.ensures.ok c.in_ok-right.ensures.ok)
+    λ has held. c.in_ok-added.ensures.added
+    ∙ ap not (pair_found c.args.self.now has held (c.in_ok-left.left, c.in_ok-right.right) c.args.first.now c.args.second.now c.in_ok-left.ensures.ok c.in_ok-right.ensures.ok)
