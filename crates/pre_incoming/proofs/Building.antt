@@ -25,7 +25,8 @@ module _ (w : Scenario) (k : ℕ) (r : Row) (nodes : List NodeId) (is : r ≡ ro
 
   destination_is : (d : NodeId) → (slice_index_or nodes (length nodes - 1) d).0 ≡ destination w k
   destination_is d =
-      let at : last nodes ≡ Some (slice_index_or nodes (length nodes - 1) d) = last_at nodes (slice_index_or nodes (length nodes - 1) d) (slice_get-get_or nodes (length nodes - 1) d (omega (arith, ap length same, long))) in
+      let at : last nodes ≡ Some (slice_index_or nodes (length nodes - 1) d) =
+      last_at nodes (slice_index_or nodes (length nodes - 1) d) (slice_get-get_or nodes (length nodes - 1) d (omega (arith, ap length same, long))) in
       sym (ap number_of_node at) ∙ (ap (λ (xs : List NodeId). number_of_node (last xs)) same ∙ ap (λ (x : Row). number_of_node (last x.route)) is)
 
   octets_are : (d e : NodeId) (prio : ℕ) → prio ≡ r.prio → frame_of (slice_index_or nodes (length nodes - 1) d).0 (slice_index_or nodes 0 e).0 prio r.vid k (send w k).send.size ≡ FrameOf w k
@@ -39,7 +40,8 @@ module _ (w : Scenario) (k : ℕ) (r : Row) (nodes : List NodeId) (is : r ≡ ro
   -- what is built is the frame
   pub octets_put : (d e : NodeId) (prio : ℕ) (sends : List SendLine) (into new : List ℕ) (size : ℕ) → prio ≡ r.prio → sends ≡ w.script.sends
       → size ≡ (slice_index_or sends k no_send).send.size
-      → new ≡ frame_of (slice_index_or nodes (length nodes - 1) d).0 (slice_index_or nodes 0 e).0 prio r.vid k (slice_index_or sends k no_send).send.size ++ drop (slice_index_or sends k no_send).send.size into
+      → new ≡ frame_of (slice_index_or nodes (length nodes - 1) d).0 (slice_index_or nodes 0 e).0 prio r.vid k (slice_index_or sends k no_send).send.size ++ drop
+      (slice_index_or sends k no_send).send.size into
       → new ≡ FrameOf w k ++ drop size into
   octets_put d e prio sends into new size of_row known its_size built =
       let one = ap (λ (xs : List SendLine). (slice_index_or xs k no_send).send.size) known in

@@ -32,16 +32,19 @@ module _ (a ordinal smd : ℕ) (lines : List Damage) (octets : List ℕ) where
     front =
         let next : i + 1 ≡ suc i = omega arith in
         ap (λ n. filter (λ (d : Damage). (d.arc.0 == a) && (d.ordinal == ordinal)) (take n lines)) next
-        ∙ (ap (filter (λ (d : Damage). (d.arc.0 == a) && (d.ordinal == ordinal))) (take_one i lines line at) ∙ filter-append (λ (d : Damage). (d.arc.0 == a) && (d.ordinal == ordinal)) (take i lines) (line ∷ []))
+        ∙ (ap (filter (λ (d : Damage). (d.arc.0 == a) && (d.ordinal == ordinal))) (take_one i lines line at)
+        ∙ filter-append (λ (d : Damage). (d.arc.0 == a) && (d.ordinal == ordinal)) (take i lines) (line ∷ []))
 
     all : damaged_by a ordinal smd (take (i + 1) lines) octets
         ≡ fold (λ xs (d : Damage). xored (smd + d.offset) d.octets xs) (damaged_by a ordinal smd (take i lines) octets) (filter (λ (d : Damage). (d.arc.0 == a) && (d.ordinal == ordinal)) (line ∷ []))
     unfolding damaged_by
     all = ap (fold (λ xs (d : Damage). xored (smd + d.offset) d.octets xs) octets) front
-        ∙ fold-append (λ xs (d : Damage). xored (smd + d.offset) d.octets xs) octets (filter (λ (d : Damage). (d.arc.0 == a) && (d.ordinal == ordinal)) (take i lines)) (filter (λ (d : Damage). (d.arc.0 == a) && (d.ordinal == ordinal)) (line ∷ []))
+        ∙ fold-append (λ xs (d : Damage). xored (smd + d.offset) d.octets xs) octets (filter (λ (d : Damage). (d.arc.0 == a) && (d.ordinal == ordinal)) (take i lines))
+        (filter (λ (d : Damage). (d.arc.0 == a) && (d.ordinal == ordinal)) (line ∷ []))
 
     -- it damages the mPacket
-    pub applied : (line.arc.0 == a) ≡ true → line.ordinal ≡ ordinal → damaged_by a ordinal smd (take (i + 1) lines) octets ≡ xored (smd + line.offset) line.octets (damaged_by a ordinal smd (take i lines) octets)
+    pub applied : (line.arc.0 == a) ≡ true → line.ordinal ≡ ordinal → damaged_by a ordinal smd (take (i + 1) lines) octets ≡ xored (smd + line.offset) line.octets
+        (damaged_by a ordinal smd (take i lines) octets)
     applied on_arc same =
         let is : ((line.arc.0 == a) && (line.ordinal == ordinal)) ≡ true = ap (λ b. b && (line.ordinal == ordinal)) on_arc ∙ is_eq line.ordinal ordinal same in
         all ∙ rw is refl
@@ -59,6 +62,7 @@ module _ (a ordinal smd : ℕ) (lines : List Damage) (octets : List ℕ) where
         all ∙ rw is refl
 
 -- a place that was cut off at a bound past the octets
-pub cut_off : (place bound reached : ℕ) (old new with' pattern : List ℕ) → new ≡ xored reached with' old → reached ≡ min place bound → with' ≡ pattern → length old ≤ bound → new ≡ xored place pattern old
+pub cut_off : (place bound reached : ℕ) (old new with' pattern : List ℕ) → new ≡ xored reached with' old → reached ≡ min place bound → with' ≡ pattern → length old ≤ bound
+    → new ≡ xored place pattern old
 cut_off place bound reached old new with' pattern is cut same few =
     is ∙ (ap (λ n. xored n with' old) cut ∙ (ap (λ xs. xored (min place bound) xs old) same ∙ within_bound place bound pattern old few))

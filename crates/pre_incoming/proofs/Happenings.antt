@@ -111,7 +111,8 @@ module _ (w : Scenario) (h : History) (t a : ℕ) (a_lt : a < length w.net.arcs)
           receives = by_lists w (h ++ es) a (suc k) (Ends h a) (take (suc k) (Air w h a)) new more
               (filter_map-append (ended_on a) h es ∙ no_append (Ends h a) (Ends es a) (no_ends w h t a a k x.given))
               (air_front w (moment_of w t (Phase.arrivals a)) (suc (moment_of w t (Phase.arrivals a))) h es legal.0 later a a_lt (suc k) (within (Ends h a) k next.0 next.1)) stands
-              (zip_weaker (IsOnWire w h a) (IsOnWire w (h ++ es) a) (still_on_wire w (moment_of w t (Phase.arrivals a)) (suc (moment_of w t (Phase.arrivals a))) h es legal.0 later a a_lt) new.wire.items (drop (suc k) (Ends h a)) next.3);
+              (zip_weaker (IsOnWire w h a) (IsOnWire w (h ++ es) a) (still_on_wire w (moment_of w t (Phase.arrivals a))
+              (suc (moment_of w t (Phase.arrivals a))) h es legal.0 later a a_lt) new.wire.items (drop (suc k) (Ends h a)) next.3);
         })
       where
         es : History
@@ -125,7 +126,8 @@ module _ (w : Scenario) (h : History) (t a : ℕ) (a_lt : a < length w.net.arcs)
         happens = arrives_one w h t a a_lt legal.0 es next.0 next.1 (inl (due_now, (result_of x.given, both.0, both.1)))
 
         later : AllWithin (length w.net.arcs) (moment_of w t (Phase.arrivals a)) (suc (moment_of w t (Phase.arrivals a))) es
-        later = at_within (length w.net.arcs) (moment_of w t (Phase.arrivals a)) (suc (moment_of w t (Phase.arrivals a))) es (omega arith) (phase_events w h t (1 + length w.net.arcs + a) (Phase.arrivals a) es (a_lt, refl) happens)
+        later = at_within (length w.net.arcs) (moment_of w t (Phase.arrivals a)) (suc (moment_of w t (Phase.arrivals a))) es (omega arith)
+            (phase_events w h t (1 + length w.net.arcs + a) (Phase.arrivals a) es (a_lt, refl) happens)
 
         more : length (Arrivals (h ++ es) a) ≡ suc k
         more =
@@ -138,7 +140,8 @@ module _ (w : Scenario) (h : History) (t a : ℕ) (a_lt : a < length w.net.arcs)
     stops : (x : Landing) → x.ord ≡ p.ord → Alias w h a k → ArrivesAsAlias w h t a x.ord
     stops x ord alias = subst (ArrivesAsAlias w h t a) (sym (number_is x ord)) (next.0, next.1, due_now, alias)
 
-    pub one_lands : LostLaw → (x : Landing) (into : List ℕ) → x.ord ≡ p.ord → Comes w a p old.receiver new.receiver x.given → HasFront w a p (take x.size into) x.given → LandsAs w h t a x into new x.given
+    pub one_lands : LostLaw → (x : Landing) (into : List ℕ) → x.ord ≡ p.ord → Comes w a p old.receiver new.receiver x.given → HasFront w a p (take x.size into) x.given
+        → LandsAs w h t a x into new x.given
     one_lands lost_law x into ord comes front = go (loses w.script a p.ord) refl
       where
         finish : IsVerdict w h t a p x.given → Stands new.receiver (take (suc k) (Air w h a)) → LandsAs w h t a x into new x.given

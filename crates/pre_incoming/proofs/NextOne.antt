@@ -1,5 +1,6 @@
 -- The mPacket that is next on the wire, as it arrives, and what it carries.
-use Rattle.std.proofs.Common.{ℕ, suc, ◌≡◌, ◌==◌, ◌&&◌, nat_le, ◌+◌, ◌-◌, ◌<◌, Bool, true, List, [], ◌∷◌, ◌++◌, length, take, drop, refl, sym, ◌∙◌, ap, arith, subst, Option, Some, None, append_assoc, length-append}
+use Rattle.std.proofs.Common.{ℕ, suc, ◌≡◌, ◌==◌, ◌&&◌, nat_le, ◌+◌, ◌-◌, ◌<◌, Bool, true, List, [], ◌∷◌, ◌++◌, length, take, drop, refl, sym, ◌∙◌, ap, arith, subst}
+use Rattle.std.proofs.Common.{Option, Some, None, append_assoc, length-append}
 use Rattle.std.specs.Prelude.{slice_get, if◌then◌else◌, option_map}
 use Rattle.std.proofs.lemmas.Bool.Decides.{nat_tests}
 use Rattle.std.proofs.lemmas.List.{take-append-drop, length-take-le}
@@ -107,8 +108,10 @@ module _ (w : Scenario) (n : ℕ) (h : History) (legal : LegalUpTo w n h) (a : �
       let its_long : length (take k (Air w h a)) ≡ k = long in
       let lt : k < length (take (suc k) (Air w h a)) = omega (arith, one_more, same, its_long) in
       let later = gives_later (take (suc k) (Air w h a)) (drop (suc k) (Air w h a)) k g lt in (
-        (λ gives. subst (λ A. Gives A k g) (take-append-drop (suc k) (Air w h a)) (later.1 (subst (λ A. Gives A k g) (with_it x at) (subst (λ i. Gives (take k (Air w h a) ++ x ∷ []) i g) long gives)))),
-        (λ gives. subst (λ i. Gives (take k (Air w h a) ++ x ∷ []) i g) (sym long) (subst (λ A. Gives A k g) (sym (with_it x at)) (later.0 (subst (λ A. Gives A k g) (sym (take-append-drop (suc k) (Air w h a))) gives)))),
+        (λ gives. subst (λ A. Gives A k g) (take-append-drop (suc k) (Air w h a))
+            (later.1 (subst (λ A. Gives A k g) (with_it x at) (subst (λ i. Gives (take k (Air w h a) ++ x ∷ []) i g) long gives)))),
+        (λ gives. subst (λ i. Gives (take k (Air w h a) ++ x ∷ []) i g) (sym long)
+            (subst (λ A. Gives A k g) (sym (with_it x at)) (later.0 (subst (λ A. Gives A k g) (sym (take-append-drop (suc k) (Air w h a))) gives)))),
       )
 
   -- ---- an LLDP frame

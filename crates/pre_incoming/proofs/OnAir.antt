@@ -34,7 +34,8 @@ zip_push P (z ∷ xs) [] x y all p = absurd all
 zip_push P (z ∷ xs) (u ∷ ys) x y (here, more) p = (here, zip_push P xs ys x y more p)
 
 -- the first on the wire is the one behind those that are off it
-pub first_of : {A B : Type 0} (P : A → B → Type 0) (n : ℕ) (x : A) (xs : List A) (ys : List B) → AllZip P (x ∷ xs) (drop n ys) → (y : B) × (slice_get ys n ≡ Some y) × P x y × AllZip P xs (drop (suc n) ys)
+pub first_of : {A B : Type 0} (P : A → B → Type 0) (n : ℕ) (x : A) (xs : List A) (ys : List B) → AllZip P (x ∷ xs) (drop n ys) → (y : B) × (slice_get ys n ≡ Some y) × P x y
+    × AllZip P xs (drop (suc n) ys)
 first_of P zero x xs [] all = absurd all
 first_of P (suc n) x xs [] all = absurd all
 first_of P zero x xs (y ∷ ys) (here, more) = (y, refl, here, more)
@@ -64,7 +65,8 @@ arrived_on_air w n h legal a a_lt =
 
 module _ (w : Scenario) (m n : ℕ) (h g : History) (legal : LegalUpTo w m h) (later : AllWithin (length w.net.arcs) m n g) (a : ℕ) (a_lt : a < length w.net.arcs) where
   there_by : (k : ℕ) → k < length (Ends h a) → (k < length (Air w h a)) × (k < length (Air w (h ++ g) a))
-  there_by k lt = let y = air_stays w m n h g legal later a a_lt k lt in (within (Air w h a) k (Arrived w h (packet h a y.0)) y.1, within (Air w (h ++ g) a) k (Arrived w h (packet h a y.0)) (y.2 ∙ y.1))
+  there_by k lt = let y = air_stays w m n h g legal later a a_lt k lt in
+      (within (Air w h a) k (Arrived w h (packet h a y.0)) y.1, within (Air w (h ++ g) a) k (Arrived w h (packet h a y.0)) (y.2 ∙ y.1))
 
   long_by : (k : ℕ) → k ≤ length (Ends h a) → (k ≤ length (Air w h a)) × (k ≤ length (Air w (h ++ g) a))
   long_by zero le = (omega arith, omega arith)

@@ -127,7 +127,8 @@ module _ (w : Scenario) (routed : IsRouted w) (n : ℕ) (h : History) (legal : L
         result = inr (inl (Given.frame octets, gives, ap (λ (v : Bool). if v then outcome.Lldp else outcome.Frame) (sym user)));
         none = frame_none octets gives is;
         events = (f.0, FrameOf w f.0, named, subst (λ xs. Gives A k (Given.frame xs)) whole gives, refl);
-        known = λ front so. let both : Some front ≡ Some octets = sym so ∙ is in let same : front ≡ octets = cc both in record { named = named; gives = subst (λ xs. Gives A k (Given.frame xs)) (sym same) gives };
+        known = λ front so. let both : Some front ≡ Some octets = sym so ∙ is in let same : front ≡ octets = cc both in
+            record { named = named; gives = subst (λ xs. Gives A k (Given.frame xs)) (sym same) gives };
         no_stop = λ so. cc so;
       }
   frame_of octets gives is what.Lldp carries =
@@ -151,7 +152,8 @@ module _ (w : Scenario) (routed : IsRouted w) (n : ℕ) (h : History) (legal : L
   frame_of octets gives is what.Nothing carries = absurd ((last_octets octets is).0 carries)
 
   -- by what the receiver answers
-  pub by_answer : (x : List ℕ) → slice_get A k ≡ Some (Some x) → (answer : Taking) → IsTaken (take k A ++ Some x ∷ []) (length (take k A)) answer → (given : Landed) → Judged p.kind p.what (expected w p) answer given
+  pub by_answer : (x : List ℕ) → slice_get A k ≡ Some (Some x) → (answer : Taking) → IsTaken (take k A ++ Some x ∷ []) (length (take k A)) answer → (given : Landed)
+      → Judged p.kind p.what (expected w p) answer given
       → IsVerdict w h t a p given ⊎ (given ≡ landed.Alias) × Alias w h a k
   by_answer x at (gave (Given.frame octets)) taken given (inl (is, as_carried)) =
       let gives = (gives_as_last w n h legal a a_lt e p at_e on (Some x) at (Given.frame octets)).0 taken in

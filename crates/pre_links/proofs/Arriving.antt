@@ -47,7 +47,8 @@ module _ (w : Scenario) (t : ℕ) (h : History) (b i : ℕ) (r : Outcome) (b_lt 
 
   -- the result is received at this tick, and nothing later
   received_now : ReceivedOn (h ++ arrival t b i r ∷ []) b r t
-  received_now = any_at (λ (x : Arrive). (x.result ≡ r) × (x.tick ≡ t)) (Arrivals (h ++ arrival t b i r ∷ []) b) (length (Arrivals h b)) (arrived t b i r) (ap (λ xs. slice_get xs (length (Arrivals h b))) grown ∙ at_last (Arrivals h b) (arrived t b i r)) (refl, refl)
+  received_now = any_at (λ (x : Arrive). (x.result ≡ r) × (x.tick ≡ t)) (Arrivals (h ++ arrival t b i r ∷ []) b) (length (Arrivals h b)) (arrived t b i r)
+      (ap (λ xs. slice_get xs (length (Arrivals h b))) grown ∙ at_last (Arrivals h b) (arrived t b i r)) (refl, refl)
 
   received_by : (s : ℕ) → ReceivedOn (h ++ arrival t b i r ∷ []) b r s → s ≤ t
   received_by s (k, x, lt, is, (result, tick)) =
@@ -85,8 +86,10 @@ module _ (w : Scenario) (t : ℕ) (h : History) (b : ℕ) (b_lt : b < length w.n
     calls = s.calls;
     stands = subst (λ x. neighbours.Stands x w.net.timing.unit s.calls) (sym neighbour) s.stands;
     adverts = adverts_kept w t h b (length (Arrivals h b)) outcome.Verify b_lt legal refl s.calls s.adverts;
-    verify = subst (IsLatest (ReceivedOn (h ++ arrival t b (length (Arrivals h b)) outcome.Verify ∷ []) b outcome.Verify)) (sym verify) (latest_now w t h b (length (Arrivals h b)) outcome.Verify b_lt legal);
-    respond = others_kept w t h b (length (Arrivals h b)) outcome.Verify b_lt legal outcome.Respond (λ e. absurd (cc e)) _ (subst (λ o. IsLatest (ReceivedOn h b outcome.Respond) (option_map (λ t. t.0) o)) (sym respond) s.respond);
+    verify = subst (IsLatest (ReceivedOn (h ++ arrival t b (length (Arrivals h b)) outcome.Verify ∷ []) b outcome.Verify)) (sym verify)
+        (latest_now w t h b (length (Arrivals h b)) outcome.Verify b_lt legal);
+    respond = others_kept w t h b (length (Arrivals h b)) outcome.Verify b_lt legal outcome.Respond (λ e. absurd (cc e)) _
+        (subst (λ o. IsLatest (ReceivedOn h b outcome.Respond) (option_map (λ t. t.0) o)) (sym respond) s.respond);
   }
 
   pub hears_respond : (old new : Partner) → new.neighbour ≡ old.neighbour → new.verify ≡ old.verify → option_map (λ t. t.0) new.respond ≡ Some t
@@ -95,8 +98,10 @@ module _ (w : Scenario) (t : ℕ) (h : History) (b : ℕ) (b_lt : b < length w.n
     calls = s.calls;
     stands = subst (λ x. neighbours.Stands x w.net.timing.unit s.calls) (sym neighbour) s.stands;
     adverts = adverts_kept w t h b (length (Arrivals h b)) outcome.Respond b_lt legal refl s.calls s.adverts;
-    verify = others_kept w t h b (length (Arrivals h b)) outcome.Respond b_lt legal outcome.Verify (λ e. absurd (cc e)) _ (subst (λ o. IsLatest (ReceivedOn h b outcome.Verify) (option_map (λ t. t.0) o)) (sym verify) s.verify);
-    respond = subst (IsLatest (ReceivedOn (h ++ arrival t b (length (Arrivals h b)) outcome.Respond ∷ []) b outcome.Respond)) (sym respond) (latest_now w t h b (length (Arrivals h b)) outcome.Respond b_lt legal);
+    verify = others_kept w t h b (length (Arrivals h b)) outcome.Respond b_lt legal outcome.Verify (λ e. absurd (cc e)) _
+        (subst (λ o. IsLatest (ReceivedOn h b outcome.Verify) (option_map (λ t. t.0) o)) (sym verify) s.verify);
+    respond = subst (IsLatest (ReceivedOn (h ++ arrival t b (length (Arrivals h b)) outcome.Respond ∷ []) b outcome.Respond)) (sym respond)
+        (latest_now w t h b (length (Arrivals h b)) outcome.Respond b_lt legal);
   }
 
   pub hears_lldp : (old new : Partner) (octets : List ℕ) (says : Advert) → length (Arrivals h b) < length (Ends h b) → new.verify ≡ old.verify → new.respond ≡ old.respond
@@ -117,6 +122,8 @@ module _ (w : Scenario) (t : ℕ) (h : History) (b : ℕ) (b_lt : b < length w.n
         stands = stands;
         adverts = subst (λ xs. AllZip (SaysOn w (h ++ es) b) xs (s.calls ++ record { tick = t; says = says } ∷ [])) (sym grows)
             (zip_push (SaysOn w (h ++ es) b) (LldpArrivals h b) s.calls x (record { tick = t; says = says }) (still_say w m (suc m) h es b b_lt legal within s.calls s.adverts) now);
-        verify = others_kept w t h b i outcome.Lldp b_lt legal outcome.Verify (λ e. absurd (cc e)) _ (subst (λ o. IsLatest (ReceivedOn h b outcome.Verify) (option_map (λ t. t.0) o)) (sym verify) s.verify);
-        respond = others_kept w t h b i outcome.Lldp b_lt legal outcome.Respond (λ e. absurd (cc e)) _ (subst (λ o. IsLatest (ReceivedOn h b outcome.Respond) (option_map (λ t. t.0) o)) (sym respond) s.respond);
+        verify = others_kept w t h b i outcome.Lldp b_lt legal outcome.Verify (λ e. absurd (cc e)) _
+            (subst (λ o. IsLatest (ReceivedOn h b outcome.Verify) (option_map (λ t. t.0) o)) (sym verify) s.verify);
+        respond = others_kept w t h b i outcome.Lldp b_lt legal outcome.Respond (λ e. absurd (cc e)) _
+            (subst (λ o. IsLatest (ReceivedOn h b outcome.Respond) (option_map (λ t. t.0) o)) (sym respond) s.respond);
       }

@@ -73,7 +73,8 @@ module _ (w : Scenario) (t : ℕ) (h : History) (a : ℕ) (a_lt : a < length w.n
   began_early i (k, b, lt, is, (same, tick)) = let less = early k b (found_at (Begins h a) k b lt is) in omega (arith, less, tick)
 
   received_by : (v : ℕ) → Received h a outcome.Verify v → v ≤ t
-  received_by v (k, x, lt, is, (same, tick)) = let by = arrived_by w t (2 + 3 * length w.net.arcs + a) h (reverse_of a) legal (omega (arith, a_lt)) k x (found_at (Arrivals h (reverse_of a)) k x lt is) in omega (arith, by, tick)
+  received_by v (k, x, lt, is, (same, tick)) = let by = arrived_by w t (2 + 3 * length w.net.arcs + a) h (reverse_of a) legal (omega (arith, a_lt)) k x
+      (found_at (Arrivals h (reverse_of a)) k x lt is) in omega (arith, by, tick)
 
   pub owed_none : IsLatest (Received h a outcome.Verify) None → Decides false (RespondOwed w h a t)
   owed_none none = ((λ e. absurd (cc e)), (λ (v, le, got, since). absurd (none v got)))
@@ -109,7 +110,8 @@ module _ (w : Scenario) (t : ℕ) (h : History) (a : ℕ) (a_lt : a < length w.n
     pub verify_wanted : Decides (wanted_at w.net.timing.verify s.calls t) (VerifyWanted w h a t)
     verify_wanted =
         subst (λ vs. Decides (link.is_verify_wanted (good_of s.calls) vs (responds_of s.calls) w.net.timing.verify t) (VerifyWanted w h a t)) (sym s.verifies)
-        (wanted_told w h a t (good_of s.calls) (responds_of s.calls) early (λ i by. s.good i (omega (arith, by))) (λ r by. ((λ any. ((s.responds r).0 any).1), (λ got. (s.responds r).1 (omega (arith, by), got)))))
+        (wanted_told w h a t (good_of s.calls) (responds_of s.calls) early (λ i by. s.good i (omega (arith, by)))
+        (λ r by. ((λ any. ((s.responds r).0 any).1), (λ got. (s.responds r).1 (omega (arith, by), got)))))
 
     pub rests : ¬ Occupied w h a t → is_going (link.last_verify (verifies_of s.calls)) ≡ false
     rests free = ap (λ vs. is_going (link.last_verify vs)) s.verifies ∙ none_going w h a t (steady w _ h a a_lt legal).ordered early free
@@ -120,7 +122,8 @@ module _ (w : Scenario) (t : ℕ) (h : History) (a : ℕ) (a_lt : a < length w.n
     pub setting_now : state.setting ≡ SettingOf w a t
     setting_now = s.setting ∙ ap (SettingBefore w h a) next
 
-    pub says : (arc w a).mode ≡ mode.Negotiate → (enabled : Bool) (add_frag ttl : ℕ) → enabled ≡ is_on state.setting → ttl ≡ ttl_under w state.setting → (arc w a).add_frag ≡ add_frag → (advert : Advert)
+    pub says : (arc w a).mode ≡ mode.Negotiate → (enabled : Bool) (add_frag ttl : ℕ) → enabled ≡ is_on state.setting → ttl ≡ ttl_under w state.setting → (arc w a).add_frag ≡ add_frag
+        → (advert : Advert)
         → advert.enabled ≡ enabled → advert.active ≡ state.active → advert.add_frag ≡ add_frag → advert.ttl ≡ ttl → advert ≡ AdvertAt w h a t
     says talks enabled add_frag ttl on lasts frag advert e v f l =
         let told = told_active gives_later w a a_lt talks (number (length w.net.arcs) t (2 + 3 * length w.net.arcs + a)) h legal t (omega arith) in

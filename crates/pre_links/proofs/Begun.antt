@@ -67,7 +67,8 @@ module _ (w : Scenario) (h : History) (a t : ℕ) (c : Choice) (a_lt : a < lengt
       lldp_kept w here (suc here) h (begin_of h a t c ∷ []) a (t + 1) a_lt legal at_here over next.wants_lldp
       (λ j b at is. other (ap (λ (b : Begin). b.what) (one_begins h a t c j b at) ∙ is)) (subst (λ x. Decides x (LldpDue w h a (t + 1))) (sym wants) s.lldp)
 
-  respond_kept : (state next : Link) (s : LinkStands w h a (t + 1) state) → ¬ (c.kind ≡ kind.Respond) → next.responded ≡ state.responded → IsLatest (Began after a kind.Respond) (option_map (λ t. t.0) next.responded)
+  respond_kept : (state next : Link) (s : LinkStands w h a (t + 1) state) → ¬ (c.kind ≡ kind.Respond) → next.responded ≡ state.responded
+      → IsLatest (Began after a kind.Respond) (option_map (λ t. t.0) next.responded)
   respond_kept state next s other responded =
       responded_kept w here (suc here) h (begin_of h a t c ∷ []) a (t + 1) a_lt legal at_here over _
       (λ j b at is. other (ap (λ (b : Begin). b.kind) (one_begins h a t c j b at) ∙ is)) (subst (λ o. IsLatest (Began h a kind.Respond) (option_map (λ t. t.0) o)) (sym responded) s.responded)
@@ -89,7 +90,8 @@ module _ (w : Scenario) (h : History) (a t : ℕ) (c : Choice) (a_lt : a < lengt
       → next.verifier ≡ state.verifier → next.setting ≡ state.setting → next.active ≡ state.active → next.wants_lldp ≡ state.wants_lldp
       → option_map (λ t. t.0) next.responded ≡ Some t → LinkStands w after a (t + 1) next
   respond_begins state next s respond no_lldp verifier setting active wants responded =
-      goes_on w here (suc here) h (begin_of h a t c ∷ []) a (t + 1) a_lt legal at_here over state next s s.calls (subst (λ v. verifiers.Stands v w.net.timing.verify s.calls) (sym verifier) s.stands) (λ i. refl)
+      goes_on w here (suc here) h (begin_of h a t c ∷ []) a (t + 1) a_lt legal at_here over state next s s.calls
+      (subst (λ v. verifiers.Stands v w.net.timing.verify s.calls) (sym verifier) s.stands) (λ i. refl)
       (same_verifies state s (ap is_verify respond)) refl setting active (wants_kept state next s no_lldp wants)
       (subst (IsLatest (Began after a kind.Respond)) (sym responded) (
         began_now (λ b. (b.kind ≡ kind.Respond) × (b.tick ≡ t)) (respond, refl),
@@ -99,7 +101,8 @@ module _ (w : Scenario) (h : History) (a t : ℕ) (c : Choice) (a_lt : a < lengt
   pub lldp_begins_now : (state next : Link) (s : LinkStands w h a (t + 1) state) → is_verify c.kind ≡ false → ¬ (c.kind ≡ kind.Respond) → c.what ≡ what.Lldp
       → next.verifier ≡ state.verifier → next.setting ≡ state.setting → next.active ≡ state.active → next.wants_lldp ≡ false → next.responded ≡ state.responded → LinkStands w after a (t + 1) next
   lldp_begins_now state next s none no_respond lldp verifier setting active wants responded =
-      goes_on w here (suc here) h (begin_of h a t c ∷ []) a (t + 1) a_lt legal at_here over state next s s.calls (subst (λ v. verifiers.Stands v w.net.timing.verify s.calls) (sym verifier) s.stands) (λ i. refl)
+      goes_on w here (suc here) h (begin_of h a t c ∷ []) a (t + 1) a_lt legal at_here over state next s s.calls
+      (subst (λ v. verifiers.Stands v w.net.timing.verify s.calls) (sym verifier) s.stands) (λ i. refl)
       (same_verifies state s none) refl setting active
       (subst (λ x. Decides x (LldpDue w after a (t + 1))) (sym wants) (
         (λ e. absurd (cc e)),
@@ -108,5 +111,6 @@ module _ (w : Scenario) (h : History) (a t : ℕ) (c : Choice) (a_lt : a < lengt
 
   pub other_begin : (state : Link) (s : LinkStands w h a (t + 1) state) → IsOther c → LinkStands w after a (t + 1) state
   other_begin state s other =
-      goes_on w here (suc here) h (begin_of h a t c ∷ []) a (t + 1) a_lt legal at_here over state state s s.calls s.stands (λ i. refl) (same_verifies state s (no_verify c.kind other.no_verify)) refl refl refl
+      goes_on w here (suc here) h (begin_of h a t c ∷ []) a (t + 1) a_lt legal at_here over state state s s.calls s.stands (λ i. refl)
+      (same_verifies state s (no_verify c.kind other.no_verify)) refl refl refl
       (wants_kept state state s other.no_lldp refl) (respond_kept state state s other.no_respond refl)

@@ -97,12 +97,15 @@ module _ (w : Scenario) (h : History) (a t : ℕ) (good : ℕ → Bool) (rs : Li
 
   pub wanted_told : Decides (link.is_verify_wanted good (Verifies h a) rs w.net.timing.verify t) (VerifyWanted w h a t)
   wanted_told = (
-    (λ is. subst (λ vs. link.VerifyWanted (Good w h a) vs (RespondTicks h a) w.net.timing.verify t) (sym (verifies_before h a t early)) (wanted_from ((wanted_computed good (Verifies h a) rs w.net.timing.verify t).1 is))),
-    (λ v. (wanted_computed good (Verifies h a) rs w.net.timing.verify t).0 (wanted_to (subst (λ vs. link.VerifyWanted (Good w h a) vs (RespondTicks h a) w.net.timing.verify t) (verifies_before h a t early) v))),
+    (λ is. subst (λ vs. link.VerifyWanted (Good w h a) vs (RespondTicks h a) w.net.timing.verify t) (sym (verifies_before h a t early))
+        (wanted_from ((wanted_computed good (Verifies h a) rs w.net.timing.verify t).1 is))),
+    (λ v. (wanted_computed good (Verifies h a) rs w.net.timing.verify t).0
+        (wanted_to (subst (λ vs. link.VerifyWanted (Good w h a) vs (RespondTicks h a) w.net.timing.verify t) (verifies_before h a t early) v))),
   )
 
 -- on an arc that isn't occupied no verify is under way
-pub none_going : (w : Scenario) (h : History) (a t : ℕ) → IsOrdered w h a → ((i : ℕ) (b : Begin) → slice_get (Begins h a) i ≡ Some b → b.tick < t) → ¬ Occupied w h a t → is_going (link.last_verify (Verifies h a)) ≡ false
+pub none_going : (w : Scenario) (h : History) (a t : ℕ) → IsOrdered w h a → ((i : ℕ) (b : Begin) → slice_get (Begins h a) i ≡ Some b → b.tick < t) → ¬ Occupied w h a t
+    → is_going (link.last_verify (Verifies h a)) ≡ false
 none_going w h a t o early free = ap (λ vs. is_going (link.last_verify vs)) (verifies_by h a) ∙ all_ended (Begins h a) (Ends h a) o.begin_places o.end_places all
   where
     all : length (Begins h a) ≤ length (Ends h a)

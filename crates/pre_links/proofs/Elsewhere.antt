@@ -34,7 +34,8 @@ verifies_by h a = refl
 same_began : (g h : History) (a : ℕ) → Begins g a ≡ Begins h a → (P : Begin → Type 0) → Any P (Begins g a) ↔ Any P (Begins h a)
 same_began g h a same P = (subst (Any P) same, subst (Any P) (sym same))
 
-module _ (w : Scenario) (m n : ℕ) (h es : History) (a t : ℕ) (state : Link) (a_lt : a < length w.net.arcs) (legal : LegalUpTo w m h) (within : AllWithin (length w.net.arcs) m n es) (past : AreOver w t m) where
+module _ (w : Scenario) (m n : ℕ) (h es : History) (a t : ℕ) (state : Link) (a_lt : a < length w.net.arcs) (legal : LegalUpTo w m h) (within : AllWithin (length w.net.arcs) m n es)
+    (past : AreOver w t m) where
   pub elsewhere : Begins es a ≡ [] → Ends es a ≡ [] → LinkStands w h a t state → LinkStands w (h ++ es) a t state
   elsewhere no_begins no_ends s =
       let begins : Begins (h ++ es) a ≡ Begins h a = filter_map-append (begin_on a) h es ∙ ap (λ xs. Begins h a ++ xs) no_begins ∙ append-nil (Begins h a) in

@@ -45,7 +45,8 @@ module _ (w : Scenario) (m n : ℕ) (h es : History) (a t : ℕ) (a_lt : a < len
       )
 
   -- no respond begins
-  pub responded_kept : (o : Option ℕ) → ((j : ℕ) (b : Begin) → slice_get (Begins es a) j ≡ Some b → ¬ (b.kind ≡ kind.Respond)) → IsLatest (Began h a kind.Respond) o → IsLatest (Began (h ++ es) a kind.Respond) o
+  pub responded_kept : (o : Option ℕ) → ((j : ℕ) (b : Begin) → slice_get (Begins es a) j ≡ Some b → ¬ (b.kind ≡ kind.Respond)) → IsLatest (Began h a kind.Respond) o
+      → IsLatest (Began (h ++ es) a kind.Respond) o
   responded_kept o none latest =
       latest_like (Began h a kind.Respond) (Began (h ++ es) a kind.Respond) o (λ i. none_begins (λ b. (b.kind ≡ kind.Respond) × (b.tick ≡ i)) (λ j b at p. none j b at p.0)) latest
 

@@ -72,12 +72,15 @@ pub unheard_events : (w : Scenario) (m n : ℕ) (h es : History) (b : ℕ) (part
 unheard_events w m n h es b partner b_lt legal within silent s =
     let each : (j : ℕ) (x : Arrive) → slice_get (Arrivals es b) j ≡ Some x → IsSilent x.result = λ j x at. every_at (λ (x : Arrive). IsSilent x.result) (Arrivals es b) j x silent at in
     let none : filter (λ (x : Arrive). is_lldp_result x.result) (Arrivals es b) ≡ []
-    = filter_nil (λ (x : Arrive). is_lldp_result x.result) (Arrivals es b) (every_weaker (λ (x : Arrive). IsSilent x.result) (λ x. is_lldp_result x.result ≡ false) (λ x q. no_lldp x.result q.no_lldp) (Arrivals es b) silent) in
+    = filter_nil (λ (x : Arrive). is_lldp_result x.result) (Arrivals es b)
+    (every_weaker (λ (x : Arrive). IsSilent x.result) (λ x. is_lldp_result x.result ≡ false) (λ x q. no_lldp x.result q.no_lldp) (Arrivals es b) silent) in
     let same : LldpArrivals (h ++ es) b ≡ LldpArrivals h b = lldp_arrivals w m n h es b b_lt legal within ∙ ap (λ xs. LldpArrivals h b ++ xs) none ∙ append-nil (LldpArrivals h b) in
     record {
       calls = s.calls;
       stands = s.stands;
       adverts = subst (λ xs. AllZip (SaysOn w (h ++ es) b) xs s.calls) (sym same) (still_say w m n h es b b_lt legal within s.calls s.adverts);
-      verify = latest_like (ReceivedOn h b outcome.Verify) (ReceivedOn (h ++ es) b outcome.Verify) _ (not_received w m n h es b b_lt legal within outcome.Verify (λ j x at. (each j x at).no_verify)) s.verify;
-      respond = latest_like (ReceivedOn h b outcome.Respond) (ReceivedOn (h ++ es) b outcome.Respond) _ (not_received w m n h es b b_lt legal within outcome.Respond (λ j x at. (each j x at).no_respond)) s.respond;
+      verify = latest_like (ReceivedOn h b outcome.Verify) (ReceivedOn (h ++ es) b outcome.Verify) _
+          (not_received w m n h es b b_lt legal within outcome.Verify (λ j x at. (each j x at).no_verify)) s.verify;
+      respond = latest_like (ReceivedOn h b outcome.Respond) (ReceivedOn (h ++ es) b outcome.Respond) _
+          (not_received w m n h es b b_lt legal within outcome.Respond (λ j x at. (each j x at).no_respond)) s.respond;
     }

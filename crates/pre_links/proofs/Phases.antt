@@ -36,14 +36,17 @@ module _ (w : Scenario) (t : ℕ) (p : Phase) (h es : History) (a : ℕ) (a_lt :
   at = phase_events w h t k p es place happens
 
   within : AllWithin (length w.net.arcs) (moment_of w t p) (suc (moment_of w t p)) es
-  within = every_weaker (IsAt (length w.net.arcs) (moment_of w t p)) (IsWithin (length w.net.arcs) (moment_of w t p) (suc (moment_of w t p))) (λ e here. (moment_of w t p, omega arith, omega arith, here)) es at
+  within = every_weaker (IsAt (length w.net.arcs) (moment_of w t p)) (IsWithin (length w.net.arcs) (moment_of w t p) (suc (moment_of w t p)))
+      (λ e here. (moment_of w t p, omega arith, omega arith, here)) es at
 
   pub still_hears : (partner : Partner) → k ≢ place_of (length w.net.arcs) (Phase.arrivals a) → Hears w h a partner → Hears w (h ++ es) a partner
   still_hears partner other heard =
       unheard_events w (moment_of w t p) (suc (moment_of w t p)) h es a partner a_lt legal within
       (subst (Every (λ (x : Arrive). IsSilent x.result)) (sym (same_arrivals (length w.net.arcs) t k a (place_within (length w.net.arcs) p place) a_lt [] es other at)) tt) heard
 
-  pub still_stands : (n : ℕ) (link : Link) → AreOver w n (moment_of w t p) → k ≢ place_of (length w.net.arcs) (Phase.ends a) → k ≢ place_of (length w.net.arcs) (Phase.starts a) → LinkStands w h a n link → LinkStands w (h ++ es) a n link
+  pub still_stands : (n : ℕ) (link : Link) → AreOver w n (moment_of w t p) → k ≢ place_of (length w.net.arcs) (Phase.ends a) → k ≢ place_of (length w.net.arcs) (Phase.starts a)
+      → LinkStands w h a n link → LinkStands w (h ++ es) a n link
   still_stands n link over no_end no_start s =
       elsewhere w (moment_of w t p) (suc (moment_of w t p)) h es a n link a_lt legal within over
-      (same_begins (length w.net.arcs) t k a (place_within (length w.net.arcs) p place) a_lt [] es no_start at) (same_ends (length w.net.arcs) t k a (place_within (length w.net.arcs) p place) a_lt [] es no_end at) s
+      (same_begins (length w.net.arcs) t k a (place_within (length w.net.arcs) p place) a_lt [] es no_start at)
+      (same_ends (length w.net.arcs) t k a (place_within (length w.net.arcs) p place) a_lt [] es no_end at) s

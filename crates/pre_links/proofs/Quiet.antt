@@ -43,7 +43,8 @@ module _ (w : Scenario) (h : History) (a t m : ℕ) (talks : (arc w a).mode ≡ 
     | inr done ↦ done
     | inl more ↦
         let o = respond_back h a j r at in
-        absurd (quiet.responds r more (omega (arith, by, lt)) (any_at (λ (x : Arrive). (x.result ≡ outcome.Respond) × (x.tick ≡ r)) (Arrivals h (reverse_of a)) o.0 o.1 o.2 (respond_is o.1.result o.3, o.4)))
+        absurd (quiet.responds r more (omega (arith, by, lt)) (any_at (λ (x : Arrive). (x.result ≡ outcome.Respond) × (x.tick ≡ r)) (Arrivals h (reverse_of a)) o.0 o.1 o.2
+        (respond_is o.1.result o.3, o.4)))
   ]
 
   verified_back : (i : ℕ) → t < i → i < m → Verified w h a i → Verified w h a t
@@ -114,7 +115,17 @@ module _ (w : Scenario) (h : History) (a t m : ℕ) (talks : (arc w a).mode ≡ 
     pub nothing_told : (i : ℕ) → t < i → i < m → HappensIn w h i (Phase.expiries a) []
     unfolding HappensIn
     nothing_told i from lt =
-        inl (talks, (state.active, state.active, decides_like state.active active_now (active_like i from lt), decides_like state.active active_now (before_like i from (omega (arith, lt))), unchanged i a state.active))
+        inl (
+          talks,
+          (
+            state.active,
+            state.active,
+            decides_like state.active active_now (active_like i from lt),
+            decides_like state.active active_now
+                (before_like i from (omega (arith, lt))),
+            unchanged i a state.active,
+          ),
+        )
 
     pub stands_on : t < m → IsUpTo state t → LinkStands w h a m state
     stands_on t_lt upto = record {

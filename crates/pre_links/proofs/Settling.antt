@@ -54,7 +54,8 @@ one_tick t r true (k, x, lt, is, p) = elim (at_end [] t x k (found_at (t ∷ [])
 ]
 one_tick t r false (k, x, lt, is, p) = absurd (omega (arith, lt))
 
-module _ (w : Scenario) (t : ℕ) (h : History) (a : ℕ) (a_lt : a < length w.net.arcs) (talks : (arc w a).mode ≡ mode.Negotiate) (legal : LegalUpTo w (number (length w.net.arcs) t (1 + 2 * length w.net.arcs + a)) h)
+module _ (w : Scenario) (t : ℕ) (h : History) (a : ℕ) (a_lt : a < length w.net.arcs) (talks : (arc w a).mode ≡ mode.Negotiate)
+    (legal : LegalUpTo w (number (length w.net.arcs) t (1 + 2 * length w.net.arcs + a)) h)
     (state : Link) (partner : Partner) (s : LinkStands w h a t state) (heard : Hears w h (reverse_of a) partner) (next : Link) (good responds cause : Bool) (setting : Setting)
     (good_is : Decides good (Good w h a t)) (responds_is : Decides responds (option_map (λ (x : Tick). x.0) partner.respond ≡ Some t))
     (stands : verifiers.Stands next.verifier w.net.timing.verify (s.calls ++ settling t good responds)) (active_is : next.active ≡ verified_at (s.calls ++ settling t good responds) t)
@@ -67,7 +68,8 @@ module _ (w : Scenario) (t : ℕ) (h : History) (a : ℕ) (a_lt : a < length w.n
   early i b at = begun_early w t (1 + 2 * length w.net.arcs + a) h a legal (omega arith) i b at
 
   received_by : (r : ℕ) → Received h a outcome.Respond r → r ≤ t
-  received_by r (k, x, lt, is, (same, tick)) = let by = arrived_by w t (1 + 2 * length w.net.arcs + a) h (reverse_of a) legal (omega (arith, a_lt)) k x (found_at (Arrivals h (reverse_of a)) k x lt is) in omega (arith, by, tick)
+  received_by r (k, x, lt, is, (same, tick)) = let by = arrived_by w t (1 + 2 * length w.net.arcs + a) h (reverse_of a) legal (omega (arith, a_lt)) k x
+      (found_at (Arrivals h (reverse_of a)) k x lt is) in omega (arith, by, tick)
 
   responds_received : Decides responds (Received h a outcome.Respond t)
   responds_received = (
@@ -84,7 +86,8 @@ module _ (w : Scenario) (t : ℕ) (h : History) (a : ℕ) (a_lt : a < length w.n
     | inl less ↦ subst (λ b. Decides b (Good w h a i)) (sym (good_settling s.calls t i good responds ∙ ap (λ (b : Bool). if b then good else good_of s.calls i) (not_by t i less))) (s.good i less)
     | inr more ↦
         let same : t ≡ i = omega (arith, lt, more) in
-        subst (λ b. Decides b (Good w h a i)) (sym (good_settling s.calls t i good responds ∙ ap (λ (b : Bool). if b then good else good_of s.calls i) (is_by t i more))) (subst (λ x. Decides good (Good w h a x)) same good_is)
+        subst (λ b. Decides b (Good w h a i)) (sym (good_settling s.calls t i good responds ∙ ap (λ (b : Bool). if b then good else good_of s.calls i) (is_by t i more)))
+        (subst (λ x. Decides good (Good w h a x)) same good_is)
   ]
 
   verifies_all : verifies_of calls ≡ Verifies h a
@@ -111,7 +114,8 @@ module _ (w : Scenario) (t : ℕ) (h : History) (a : ℕ) (a_lt : a < length w.n
   active_now : Decides next.active (Active w h a t)
   active_now =
       subst (λ b. Decides b (Active w h a t)) (sym (active_is ∙ ap (λ vs. link.is_verified (good_of calls) vs (responds_of calls) t) verifies_all))
-      (active_told w h a t (good_of calls) (responds_of calls) early (λ i by. good_all i (omega (arith, by))) (λ r by. ((λ any. ((responds_all r).0 any).1), (λ got. (responds_all r).1 (omega (arith, by), got)))) talks)
+      (active_told w h a t (good_of calls) (responds_of calls) early (λ i by. good_all i (omega (arith, by)))
+      (λ r by. ((λ any. ((responds_all r).0 any).1), (λ got. (responds_all r).1 (omega (arith, by), got)))) talks)
 
   pub happens : HappensIn w h t (Phase.expiries a) (change t a next.active state.active)
   unfolding HappensIn

@@ -41,7 +41,8 @@ module _ (w : Scenario) (m n : ℕ) (h es : History) (legal : LegalUpTo w m h) (
 
     pub received_on : (r : Outcome) → Received (h ++ es) a r t ↔ Received h a r t
     received_on r =
-        any_stays (λ (x : Arrive). (x.result ≡ r) × (x.tick ≡ t)) (Arrivals (h ++ es) (reverse_of a)) (Arrivals h (reverse_of a)) (Arrivals es (reverse_of a)) (filter_map-append (arrive_on (reverse_of a)) h es)
+        any_stays (λ (x : Arrive). (x.result ≡ r) × (x.tick ≡ t)) (Arrivals (h ++ es) (reverse_of a)) (Arrivals h (reverse_of a)) (Arrivals es (reverse_of a))
+        (filter_map-append (arrive_on (reverse_of a)) h es)
         (λ j x at p. let more = late j x at in absurd (omega (arith, more, p.1)))
 
   module _ (t : ℕ) (over : (i : ℕ) → i < t → number (length w.net.arcs) i (1 + 2 * length w.net.arcs + 0) ≤ m) where

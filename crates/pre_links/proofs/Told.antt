@@ -26,14 +26,16 @@ good_responding calls t i true = good_of-push calls (responded t) i
 good_responding calls t i false = ap (λ cs. good_of cs i) (append-nil calls)
 
 pub good_settling : (calls : List Call) (t i : ℕ) (good responds : Bool) → good_of (calls ++ settling t good responds) i ≡ (if nat_le t i then good else good_of calls i)
-good_settling calls t i good responds = ap (λ cs. good_of cs i) (settling-parts calls t good responds) ∙ good_responding (calls ++ settled t good ∷ []) t i responds ∙ good_of-push calls (settled t good) i
+good_settling calls t i good responds = ap (λ cs. good_of cs i) (settling-parts calls t good responds) ∙ good_responding (calls ++ settled t good ∷ []) t i responds
+    ∙ good_of-push calls (settled t good) i
 
 verifies_responding : (calls : List Call) (t : ℕ) (responds : Bool) → verifies_of (calls ++ responding t responds) ≡ verifies_of calls
 verifies_responding calls t true = verifies_of-push calls (responded t)
 verifies_responding calls t false = ap verifies_of (append-nil calls)
 
 pub verifies_settling : (calls : List Call) (t : ℕ) (good responds : Bool) → verifies_of (calls ++ settling t good responds) ≡ verifies_of calls
-verifies_settling calls t good responds = ap verifies_of (settling-parts calls t good responds) ∙ verifies_responding (calls ++ settled t good ∷ []) t responds ∙ verifies_of-push calls (settled t good)
+verifies_settling calls t good responds = ap verifies_of (settling-parts calls t good responds) ∙ verifies_responding (calls ++ settled t good ∷ []) t responds
+    ∙ verifies_of-push calls (settled t good)
 
 -- the ticks of responds told
 abbrev pub ticks : ℕ → Bool → List ℕ
@@ -81,4 +83,5 @@ other_state wait calls t s is other = go (verified_at calls t) refl
     go : (v : Bool) → verified_at calls t ≡ v → v ≡ false
     go false at = refl
     go true at =
-        absurd (other (is ∙ state_true (good_of calls t) (verified_at calls t) (is_going (last_verify (verifies_of calls))) (has_failed wait calls t) (wanted_at wait calls t) (verified_good calls t (good_of calls t) refl at) at))
+        absurd (other (is ∙ state_true (good_of calls t) (verified_at calls t) (is_going (last_verify (verifies_of calls))) (has_failed wait calls t) (wanted_at wait calls t)
+        (verified_good calls t (good_of calls t) refl at) at))

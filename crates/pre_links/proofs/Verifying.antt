@@ -45,7 +45,15 @@ past_last (x ∷ xs) (suc i) le = past_last xs i (omega (arith, le))
 alone_begun : (h : History) (a t : ℕ) (c : Choice) → Begins (begin_of h a t c ∷ []) a ≡ record { tick = t; arc = a; ord = length (Begins h a); kind = c.kind; what = c.what; from = c.from } ∷ []
 alone_begun h a t c = rw (is_eq a) refl
 
-pub begins_grow : (h : History) (a t : ℕ) (c : Choice) → Begins (h ++ begin_of h a t c ∷ []) a ≡ Begins h a ++ record { tick = t; arc = a; ord = length (Begins h a); kind = c.kind; what = c.what; from = c.from } ∷ []
+pub begins_grow : (h : History) (a t : ℕ) (c : Choice) → Begins (h ++ begin_of h a t c ∷ []) a ≡ Begins h a ++ record {
+  tick = t;
+  arc = a;
+  ord = length (Begins h a);
+  kind =
+      c.kind;
+  what = c.what;
+  from = c.from;
+} ∷ []
 begins_grow h a t c = filter_map-append (begin_on a) h (begin_of h a t c ∷ []) ∙ ap (λ xs. Begins h a ++ xs) (alone_begun h a t c)
 
 pub one_begins : (h : History) (a t : ℕ) (c : Choice) (j : ℕ) (b : Begin) → slice_get (Begins (begin_of h a t c ∷ []) a) j ≡ Some b
@@ -61,7 +69,8 @@ verifies_begun w h a t c o =
     let b : Begin = record { tick = t; arc = a; ord = length (Begins h a); kind = c.kind; what = c.what; from = c.from } in
     let ends : Ends (h ++ begin_of h a t c ∷ []) a ≡ Ends h a = filter_map-append (ended_on a) h (begin_of h a t c ∷ []) ∙ append-nil (Ends h a) in
     let none : slice_get (filter (λ (e : Ended). e.ord == b.ord) (Ends h a)) 0 ≡ None
-    = first_numbered (Ends h a) 0 (length (Begins h a)) b.ord (omega arith) (λ j e at. let is : e.ord ≡ j = o.end_places j e at in omega (arith, is)) ∙ past_last (Ends h a) (length (Begins h a)) o.ends_begun in
+    = first_numbered (Ends h a) 0 (length (Begins h a)) b.ord (omega arith) (λ j e at. let is : e.ord ≡ j = o.end_places j e at in omega (arith, is))
+    ∙ past_last (Ends h a) (length (Begins h a)) o.ends_begun in
     verifies_by (h ++ begin_of h a t c ∷ []) a ∙ ap (λ xs. verifies_in xs (Ends (h ++ begin_of h a t c ∷ []) a)) (begins_grow h a t c) ∙ ap (verifies_in (Begins h a ++ b ∷ [])) ends
     ∙ verifies-push (Begins h a) b (Ends h a) ∙ ap (λ o. verifies_in (Begins h a) (Ends h a) ++ last_as b o) none ∙ ap (λ xs. xs ++ last_as b None) (sym (verifies_by h a))
 
@@ -102,7 +111,8 @@ all_ended bs ends begin_places end_places le =
     (every_map (λ (p : Packet). is_none (verify_in p).ended ≡ false) (packet_of ends) bs (every_placed _ bs (λ i b at.
     let e = there ends i (omega (arith, within bs i b at, le)) in
     let ord : b.ord ≡ i = begin_places i b at in
-    let is : slice_get (filter (λ (e : Ended). e.ord == b.ord) ends) 0 ≡ Some e.0 = first_numbered ends 0 i b.ord (omega (arith, ord)) (λ j e at. let is : e.ord ≡ j = end_places j e at in omega (arith, is)) ∙ e.1 in
+    let is : slice_get (filter (λ (e : Ended). e.ord == b.ord) ends) 0 ≡ Some e.0 =
+    first_numbered ends 0 i b.ord (omega (arith, ord)) (λ j e at. let is : e.ord ≡ j = end_places j e at in omega (arith, is)) ∙ e.1 in
     ap (λ (o : Option Ended). is_none (option_map (λ (e : Ended). e.tick) o)) is)))))
 
 -- what the end of the last mPacket makes of the verifies
@@ -150,7 +160,8 @@ module _ (w : Scenario) (h : History) (a : ℕ) (e : Ended) (o : IsOrdered w h a
         let c_ord : c.ord ≡ i = front_at i c at in
         let d = there (Ends h a) i (omega (arith, within front i c at, len)) in
         ap (λ (x : Option Ended). record { begin = c; ended = x })
-        (first_numbered (Ends h a ++ e ∷ []) 0 i c.ord (omega (arith, c_ord)) places ∙ (at_front (Ends h a) (e ∷ []) i d.0 d.1 ∙ sym d.1) ∙ sym (first_numbered (Ends h a) 0 i c.ord (omega (arith, c_ord)) old_places))
+        (first_numbered (Ends h a ++ e ∷ []) 0 i c.ord (omega (arith, c_ord)) places ∙ (at_front (Ends h a) (e ∷ []) i d.0 d.1 ∙ sym d.1)
+        ∙ sym (first_numbered (Ends h a) 0 i c.ord (omega (arith, c_ord)) old_places))
 
     same_front : verifies_in front (Ends h a ++ e ∷ []) ≡ verifies_in front (Ends h a)
     same_front = ap (λ (ps : List Packet). map verify_in (filter test ps)) (map_like (packet_of (Ends h a ++ e ∷ [])) (packet_of (Ends h a)) front (every_placed _ front same_packet))
@@ -177,13 +188,16 @@ pub ended_going : (t : ℕ) (vs ws us : List link.Verify) (b : Begin) (e : Ended
     → is_going (link.last_verify us) ≡ false → is_going (link.last_verify vs) ≡ true → ws ≡ end_last t vs
 ended_going t vs ws us b e before after tick over going = go (is_verify b.kind) before after
   where
-    go : (x : Bool) → vs ≡ us ++ (if x then record { began = b.tick; ended = None } ∷ [] else []) → ws ≡ us ++ (if x then record { began = b.tick; ended = Some e.tick } ∷ [] else []) → ws ≡ end_last t vs
-    go true before after = after ∙ ap (λ (x : ℕ). us ++ record { began = b.tick; ended = Some x } ∷ []) tick ∙ sym (end_last-push t us (record { began = b.tick; ended = None })) ∙ ap (end_last t) (sym before)
+    go : (x : Bool) → vs ≡ us ++ (if x then record { began = b.tick; ended = None } ∷ [] else []) → ws ≡ us ++ (if x then record { began = b.tick; ended = Some e.tick } ∷ [] else [])
+        → ws ≡ end_last t vs
+    go true before after = after ∙ ap (λ (x : ℕ). us ++ record { began = b.tick; ended = Some x } ∷ []) tick ∙ sym (end_last-push t us (record { began = b.tick; ended = None }))
+        ∙ ap (end_last t) (sym before)
     go false before after = absurd (let no : is_going (link.last_verify vs) ≡ false = ap (λ xs. is_going (link.last_verify xs)) (before ∙ append-nil us) ∙ over in cc (no, going))
 
 pub ended_calm : (vs ws us : List link.Verify) (b : Begin) (e : Ended) → vs ≡ us ++ last_as b None → ws ≡ us ++ last_as b (Some e) → is_going (link.last_verify vs) ≡ false → ws ≡ vs
 ended_calm vs ws us b e before after calm = go (is_verify b.kind) before after
   where
     go : (x : Bool) → vs ≡ us ++ (if x then record { began = b.tick; ended = None } ∷ [] else []) → ws ≡ us ++ (if x then record { began = b.tick; ended = Some e.tick } ∷ [] else []) → ws ≡ vs
-    go true before after = absurd (let yea : is_going (link.last_verify vs) ≡ true = ap (λ xs. is_going (link.last_verify xs)) before ∙ ap is_going (last_verify-push us (record { began = b.tick; ended = None })) in cc (yea, calm))
+    go true before after = absurd (let yea : is_going (link.last_verify vs) ≡ true = ap (λ xs. is_going (link.last_verify xs)) before
+        ∙ ap is_going (last_verify-push us (record { began = b.tick; ended = None })) in cc (yea, calm))
     go false before after = after ∙ sym before

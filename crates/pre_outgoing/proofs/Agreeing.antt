@@ -43,7 +43,8 @@ pub begun_early : (w : Scenario) (past : History) (t a : ℕ) → LegalUpTo w (n
     → (i : ℕ) (b : Begin) → slice_get (Begins past a) i ≡ Some b → b.tick < t
 begun_early w past t a legal i b here =
     let n = number (length w.net.arcs) t (2 + 3 * length w.net.arcs + a) in
-    let y = every_at (λ (b : Begin). (b.arc ≡ a) × (number (length w.net.arcs) b.tick (2 + 3 * length w.net.arcs + a) < n)) (Begins past a) i b (begins_before (length w.net.arcs) n a past (placed w n past legal)) here in
+    let y = every_at (λ (b : Begin). (b.arc ≡ a) × (number (length w.net.arcs) b.tick (2 + 3 * length w.net.arcs + a) < n)) (Begins past a) i b
+    (begins_before (length w.net.arcs) n a past (placed w n past legal)) here in
     tick_lt (moments (length w.net.arcs)) b.tick t (2 + 3 * length w.net.arcs + a) y.1
 
 module _ (w : Scenario) (past : History) (t a now : ℕ) (settled : Bool) (calls : List Call) (a_lt : a < length w.net.arcs)
@@ -115,4 +116,5 @@ module _ (w : Scenario) (past : History) (n a now : ℕ) (settled : Bool) (calls
       let run = run_after w past (arc w a).cost (arc w a).add_frag older (map (packet past a) f.0) sending.sent.1
       (pairs w past a (packet past a) (made w past a now s.ordered) s.checks older f.0 (Ends past a) f.4 f.2 (λ i c at. ap (λ xs. slice_get xs i) f.1 ∙ at_front f.0 (b ∷ []) i c at) (λ i e at. at)) in
       right_check w past p older b f.3 (arc w a).cost (arc w a).add_frag store other stored others lldp_length
-      (λ y is. let r : IsRun w past y (firsts older) (run_of (map (packet past a) f.0)) = subst (λ o. RunAfter w past o (firsts older) (run_of (map (packet past a) f.0))) is run in (r.same, r.left)) sending.sent.0
+      (λ y is. let r : IsRun w past y (firsts older) (run_of (map (packet past a) f.0)) = subst (λ o. RunAfter w past o (firsts older) (run_of (map (packet past a) f.0))) is run in
+      (r.same, r.left)) sending.sent.0

@@ -81,8 +81,10 @@ module _ (w : Scenario) (h : History) (p : Sending) (older : List Sending) (b : 
         let here : HoldsAt store f.slot (FrameOf w f.frame.0) = subst (λ c. IsStored w (frame_by c (interrupted older)) store) is stored in
         ap₂ (λ n o. drop (n - 4) o) (size ∙ sized) (ap held here)
         ∙ sym (in_one (FrameOf w f.frame.0) (ap (whole_of w h b) (fits.carries ∙ ap (λ c. what_of c (interrupted older)) is)) from (size ∙ sized))
-    by_choice verify is (kind_is, from, size) = sym (in_one BareOctets (ap (whole_of w h b) (fits.carries ∙ ap (λ c. what_of c (interrupted older)) is)) from (size ∙ sym bare_length) ∙ ap (λ n. drop (n - 4) BareOctets) bare_length)
-    by_choice respond is (kind_is, from, size) = sym (in_one BareOctets (ap (whole_of w h b) (fits.carries ∙ ap (λ c. what_of c (interrupted older)) is)) from (size ∙ sym bare_length) ∙ ap (λ n. drop (n - 4) BareOctets) bare_length)
+    by_choice verify is (kind_is, from, size) = sym (in_one BareOctets (ap (whole_of w h b) (fits.carries ∙ ap (λ c. what_of c (interrupted older)) is)) from (size ∙ sym bare_length)
+        ∙ ap (λ n. drop (n - 4) BareOctets) bare_length)
+    by_choice respond is (kind_is, from, size) = sym (in_one BareOctets (ap (whole_of w h b) (fits.carries ∙ ap (λ c. what_of c (interrupted older)) is)) from (size ∙ sym bare_length)
+        ∙ ap (λ n. drop (n - 4) BareOctets) bare_length)
     by_choice lldp is (kind_is, from, size) =
         let there : other ≡ WholeOf w h b = subst (λ c. OtherIs c other (WholeOf w h b)) is others in
         let long : length (WholeOf w h b) ≡ 64 = lldp_length (fits.carries ∙ ap (λ c. what_of c (interrupted older)) is) in

@@ -45,7 +45,8 @@ module _ (w : Scenario) (h : History) (a t : ℕ) (ordered : IsOrdered w h a) wh
   pub made : (i : ℕ) (b : Begin) (e : Ended) → slice_get (Begins h a) i ≡ Some b → slice_get (Ends h a) i ≡ Some e → packet h a b ≡ packet_of b e
   made i b e at_b at_e =
       let ord : b.ord ≡ i = ordered.begin_places i b at_b in
-      let same : end_of h a b.ord ≡ slice_get (Ends h a) i = first_numbered (Ends h a) 0 i b.ord (omega (arith, ord)) (λ j d here. let is : d.ord ≡ j = ordered.end_places j d here in omega (arith, is)) in
+      let same : end_of h a b.ord ≡ slice_get (Ends h a) i = first_numbered (Ends h a) 0 i b.ord (omega (arith, ord)) (λ j d here. let is : d.ord ≡ j = ordered.end_places j d here in
+      omega (arith, is)) in
       ap (λ o. record { begin = b; ended = o }) (same ∙ at_e)
 
   -- where each has ended, each packet has its end
@@ -90,7 +91,8 @@ module _ (w : Scenario) (h : History) (a t : ℕ) (ordered : IsOrdered w h a) wh
           at_b = in_b (length front) b (ap (λ xs. slice_get xs (length front)) bs_is ∙ at_last front b)
 
           go : (o : Option End) → p.told.end ≡ o → EndsFit w p older o before es
-              → (((i : ℕ) (b : Begin) → slice_get front i ≡ Some b → slice_get (Begins h a) i ≡ Some b) → ((i : ℕ) (e : Ended) → slice_get before i ≡ Some e → slice_get (Ends h a) i ≡ Some e) → IsFree (arc w a).cost (map (λ p. p.told) older) t)
+              → (((i : ℕ) (b : Begin) → slice_get front i ≡ Some b → slice_get (Begins h a) i ≡ Some b)
+              → ((i : ℕ) (e : Ended) → slice_get before i ≡ Some e → slice_get (Ends h a) i ≡ Some e) → IsFree (arc w a).cost (map (λ p. p.told) older) t)
               → IsFree (arc w a).cost (map (λ p. p.told) (p ∷ older)) t
           go None is fit others = absurd (omega (arith, same, ap length fit, same_length, ap length bs_is, length_push front b))
           go (Some end) is (e, es_is, tick, size, stored) others =

@@ -78,7 +78,8 @@ is_some_is None (Some x) n keeps = absurd keeps
 is_some_is (Some p) None n keeps = absurd keeps
 is_some_is (Some p) (Some x) n keeps = refl
 
-kept_is : (cost t : ℕ) (going : Option Going) (kept : Option Piece) (last : Option ℕ) (packets : List Sending) → IsAt cost going kept last packets → is_free_with going cost last t ≡ true → is_some kept ≡ is_some (interrupted packets)
+kept_is : (cost t : ℕ) (going : Option Going) (kept : Option Piece) (last : Option ℕ) (packets : List Sending) → IsAt cost going kept last packets
+    → is_free_with going cost last t ≡ true → is_some kept ≡ is_some (interrupted packets)
 kept_is cost t None kept last [] at free = ap is_some at.0
 kept_is cost t None kept last (p ∷ older) (end, is, last_is, keeps, more, before) free = is_some_is kept (interrupted (p ∷ older)) _ keeps
 kept_is cost t (Some g) kept last packets at free = absurd (cc free)

@@ -84,7 +84,8 @@ module _ (w : Scenario) (h : History) (a t : ℕ) where
 
     begun_before : filter (λ (x : Packet). nat_lt x.begin.tick t) ps ≡ ps
     unfolding ps
-    begun_before = every_passes (λ (x : Packet). nat_lt x.begin.tick t) ps (each_packet w h a t ordered (λ (x : Packet). nat_lt x.begin.tick t ≡ true) all (λ i b e at_b at_e. yes b.tick (early i b at_b)))
+    begun_before = every_passes (λ (x : Packet). nat_lt x.begin.tick t) ps
+        (each_packet w h a t ordered (λ (x : Packet). nat_lt x.begin.tick t ≡ true) all (λ i b e at_b at_e. yes b.tick (early i b at_b)))
       where
         yes : (m : ℕ) → m < t → nat_lt m t ≡ true
         yes m lt = grind (arith, nat_tests)
@@ -97,7 +98,8 @@ module _ (w : Scenario) (h : History) (a t : ℕ) where
     unfolding ps
     over =
         every_last EndedBy starts (filter fragments ps) (every_filter EndedBy fragments ps (each_packet w h a t ordered EndedBy all (λ i b e at_b at_e.
-        let gone : e.tick + 12 * (arc w a).cost ≤ t = every_at (λ (e : Ended). e.tick + 12 * (arc w a).cost ≤ t) (Ends h a) i e (all_over w (arc w a).cost t packets (Begins h a) (Ends h a) agree free) at_e in
+        let gone : e.tick + 12 * (arc w a).cost ≤ t = every_at (λ (e : Ended). e.tick + 12 * (arc w a).cost ≤ t) (Ends h a) i e
+        (all_over w (arc w a).cost t packets (Begins h a) (Ends h a) agree free) at_e in
         omega (arith, gone))))
 
     pub leaves_over : LeavesOver w h a t (interrupted packets) (firsts packets)

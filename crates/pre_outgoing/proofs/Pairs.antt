@@ -84,7 +84,8 @@ module _ (w : Scenario) (h : History) (a : ℕ) (g : Begin → Packet)
       at_b = in_b (length front) b (ap (λ xs. slice_get xs (length front)) bs_is ∙ at_last front b)
 
       go : (o : Option End) → p.told.end ≡ o → EndsFit w p older o before es
-          → (((i : ℕ) (b : Begin) → slice_get front i ≡ Some b → slice_get (Begins h a) i ≡ Some b) → ((i : ℕ) (e : Ended) → slice_get before i ≡ Some e → slice_get (Ends h a) i ≡ Some e) → Pairs w h older (map g front))
+          → (((i : ℕ) (b : Begin) → slice_get front i ≡ Some b → slice_get (Begins h a) i ≡ Some b)
+          → ((i : ℕ) (e : Ended) → slice_get before i ≡ Some e → slice_get (Ends h a) i ≡ Some e) → Pairs w h older (map g front))
           → Pairs w h (p ∷ older) (map g bs)
       go None is fit more = absurd (omega (arith, all, ap length fit, same_length, ap length bs_is, length-append front (b ∷ [])))
       go (Some end) is (e, es_is, tick, size, stored) more =

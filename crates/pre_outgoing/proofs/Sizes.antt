@@ -48,7 +48,11 @@ module _ (w : Scenario) (h : History) (a t : ℕ) (p : Sending) (older : List Se
   -- ---- in one piece
   one_piece : (length (WholeOf w h b) ≡ p.size) → ((size : ℕ) → SizeOf w h b.kind b size ↔ (size ≡ length (WholeOf w h b))) → (size : ℕ) → Due size ↔ IsPlanned (arc w a).cost p t size
   one_piece is rule size = (
-    λ due. let same : size ≡ p.size = (rule size).0 due.0 ∙ is in (same, ap (λ n. p.told.began + n) (sym (turned (arc w a).cost p.size)) ∙ (ap (λ n. p.told.began + (arc w a).cost * (n + 8)) (sym same) ∙ end_to size due.1)),
+    λ due. let same : size ≡ p.size = (rule size).0 due.0 ∙ is in (
+      same,
+      ap (λ n. p.told.began + n) (sym (turned (arc w a).cost p.size))
+          ∙ (ap (λ n. p.told.began + (arc w a).cost * (n + 8)) (sym same) ∙ end_to size due.1),
+    ),
     λ plan. (
       (rule size).1 (plan.0 ∙ sym is),
       end_from size (ap (λ n. p.told.began + (arc w a).cost * (n + 8)) plan.0 ∙ (ap (λ n. p.told.began + n) (turned (arc w a).cost p.size) ∙ plan.1)),
@@ -68,7 +72,8 @@ module _ (w : Scenario) (h : History) (a t : ℕ) (p : Sending) (older : List Se
     λ due.
         let end_is = end_to size due.1 in
         let theirs : CutRule (ExpressWaits w h a) (Fragment unsent) size = subst (λ x. x) (rule size ∙ same_rule size) due.0 in
-        let ours : CutRule (Waits p.told.waits) (Fragment unsent) size = cut_between (ExpressWaits w h a) (Waits p.told.waits) (Fragment unsent) size some (λ u lt lt'. known part u lt (omega (arith, lt', end_is))) theirs in
+        let ours : CutRule (Waits p.told.waits) (Fragment unsent) size = cut_between (ExpressWaits w h a) (Waits p.told.waits) (Fragment unsent) size some
+        (λ u lt lt'. known part u lt (omega (arith, lt', end_is))) theirs in
         let same : size ≡ p.size = cut_one (Waits p.told.waits) (Fragment unsent) size p.size ours cut in
         (same, ap (λ n. p.told.began + n) (sym (turned (arc w a).cost p.size)) ∙ (ap (λ n. p.told.began + (arc w a).cost * (n + 8)) (sym same) ∙ end_is)),
     λ plan.
@@ -90,10 +95,12 @@ module _ (w : Scenario) (h : History) (a t : ℕ) (p : Sending) (older : List Se
 
   by_choice : (ch : Chosen) → p.told.chosen ≡ ch → Follows (arc w a).cost (arc w a).add_frag ch older p → (size : ℕ) → Due size ↔ IsPlanned (arc w a).cost p t size
   by_choice (express f) is (kind_is, from, size_is) =
-      one_piece (ap (λ x. length (whole_of w h b x)) (fits.carries ∙ ap (λ c. what_of c (interrupted older)) is) ∙ (sym (subst (λ c. IsSized w (frame_by c (interrupted older))) is fits.sized) ∙ sym size_is))
+      one_piece (ap (λ x. length (whole_of w h b x)) (fits.carries ∙ ap (λ c. what_of c (interrupted older)) is)
+      ∙ (sym (subst (λ c. IsSized w (frame_by c (interrupted older))) is fits.sized) ∙ sym size_is))
       (whole_kind kind.Express kind_is (λ n. refl))
   by_choice (whole f) is (kind_is, from, size_is) =
-      one_piece (ap (λ x. length (whole_of w h b x)) (fits.carries ∙ ap (λ c. what_of c (interrupted older)) is) ∙ (sym (subst (λ c. IsSized w (frame_by c (interrupted older))) is fits.sized) ∙ sym size_is))
+      one_piece (ap (λ x. length (whole_of w h b x)) (fits.carries ∙ ap (λ c. what_of c (interrupted older)) is)
+      ∙ (sym (subst (λ c. IsSized w (frame_by c (interrupted older))) is fits.sized) ∙ sym size_is))
       (whole_kind kind.Express kind_is (λ n. refl))
   by_choice verify is (kind_is, from, size_is) =
       one_piece (ap (λ x. length (whole_of w h b x)) (fits.carries ∙ ap (λ c. what_of c (interrupted older)) is) ∙ (bare_length ∙ sym size_is)) (whole_kind kind.Verify kind_is (λ n. refl))

@@ -1,5 +1,6 @@
 -- What each step of a tick leaves of the relation.
-use Rattle.std.proofs.Common.{ℕ, suc, ◌≡◌, ◌==◌, ◌&&◌, ◌+◌, ◌-◌, ◌*◌, ◌<◌, ◌≤◌, nat_lt, nat_le, not, Bool, true, false, List, [], ◌∷◌, ◌++◌, length, refl, sym, ◌∙◌, ap, ap₂, inr, arith, subst, Option, Some, None, map, filter}
+use Rattle.std.proofs.Common.{ℕ, suc, ◌≡◌, ◌==◌, ◌&&◌, ◌+◌, ◌-◌, ◌*◌, ◌<◌, ◌≤◌, nat_lt, nat_le, not, Bool, true, false, List, [], ◌∷◌, ◌++◌, length, refl, sym, ◌∙◌, ap}
+use Rattle.std.proofs.Common.{ap₂, inr, arith, subst, Option, Some, None, map, filter}
 use Rattle.std.specs.Prelude.{if◌then◌else◌, slice_get, ◌↔◌}
 use Rattle.std.specs.List.{list_any}
 use Rattle.std.proofs.lemmas.Bool.Decides.{nat_tests}
@@ -37,7 +38,8 @@ waiting_same : (g h : History) (a p t : ℕ) → Begins g a ≡ Begins h a → E
 unfolding Waiting
 waiting_same g h a p t bs es =
     ap₂ (λ (xs : List Begin) (ys : List RingEntry).
-    map (λ (e : RingEntry). e.frame) (filter (λ (e : RingEntry). e.entered && nat_le e.tick t && not (list_any (λ (b : Begin). nat_lt b.tick t && what_is b.what e.frame && (b.from == 0)) xs)) ys)) bs es
+    map (λ (e : RingEntry). e.frame) (filter (λ (e : RingEntry). e.entered && nat_le e.tick t && not
+    (list_any (λ (b : Begin). nat_lt b.tick t && what_is b.what e.frame && (b.from == 0)) xs)) ys)) bs es
 
 express_same : (w : Scenario) (g h : History) (a t : ℕ) → ((p : ℕ) → Waiting g a p t ≡ Waiting h a p t) → ExpressWaits w g a t ↔ ExpressWaits w h a t
 express_same w g h a t same = (
@@ -143,7 +145,8 @@ pub entered_by : (w : Scenario) (past : History) (t a : ℕ) → a < length w.ne
 entered_by w past t a a_lt legal p i r here =
     let n = number (length w.net.arcs) t (2 + 3 * length w.net.arcs + a) in
     let y = every_at (λ (r : RingEntry). number (length w.net.arcs) r.tick (1 + 3 * length w.net.arcs) < n) (Entries past a p) i r
-    (every_selected (entry_on a p) (IsBefore (length w.net.arcs) n) (λ r. number (length w.net.arcs) r.tick (1 + 3 * length w.net.arcs) < n) (entry_before (length w.net.arcs) n a p) past (placed w n past legal)) here in
+    (every_selected (entry_on a p) (IsBefore (length w.net.arcs) n) (λ r. number (length w.net.arcs) r.tick (1 + 3 * length w.net.arcs) < n)
+    (entry_before (length w.net.arcs) n a p) past (placed w n past legal)) here in
     tick_le (moments (length w.net.arcs)) r.tick t (1 + 3 * length w.net.arcs) (2 + 3 * length w.net.arcs + a) (omega (arith, a_lt)) (omega (arith, y))
 
 -- ---- a begin

@@ -121,7 +121,8 @@ retold_agrees w t size p older bs es same (front, b, before, bs_is, ends, same_l
     size_same end is (inl none) = absurd (cc (is, none))
     size_same end is (inr same) = same
 
-    go : (o : Option End) → p.told.end ≡ o → EndsFit w p older o before es → EndsFit w (record p { told = record p.told { waits = waits_from t p.told.end p.told.waits }; size = size }) older o before es
+    go : (o : Option End) → p.told.end ≡ o → EndsFit w p older o before es
+        → EndsFit w (record p { told = record p.told { waits = waits_from t p.told.end p.told.waits }; size = size }) older o before es
     go None is fit = fit
     go (Some end) is (e, es_is, tick, size_is, stored) = (e, es_is, tick, size_is ∙ sym (size_same end is same), stored)
 

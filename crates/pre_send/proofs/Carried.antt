@@ -97,7 +97,8 @@ module _ (cost add_frag : ℕ) (octets : List ℕ) where
           checked = checked_push [] ms m checked (check ∙ ap (λ l. Mcrc (l ++ part_at octets p.from p.size)) (same ∙ sym joins));
           long = long_push add_frag ms m long (subst (λ x. least_fragment add_frag ≤ x) (sym mdata_size) sizes.0);
           left = omega (arith, sizes.1, sizes.2, total);
-          whole = All-push (λ x. IsWhole x) ms m whole (is_whole m p.kind p.size refl counts mdata_size (omega (arith, sizes.0)) (ap length check ∙ length-Mcrc (before ++ part_at octets p.from p.size)));
+          whole = All-push (λ x. IsWhole x) ms m whole (is_whole m p.kind p.size refl counts mdata_size (omega (arith, sizes.0))
+              (ap length check ∙ length-Mcrc (before ++ part_at octets p.from p.size)));
         }
 
     -- it ends
@@ -162,7 +163,8 @@ module _ (cost add_frag : ℕ) (octets : List ℕ) where
         let left = left_is (p.from + p.size == f.size) (part_made f [] 0 p) x is in
         subst (λ (z : Part). IsHeld z.frame octets p.told.end → length octets ≡ z.frame.size → SoFar octets add_frag (1 + firsts older) (fragment_of f (octets_at store f.slot) [] p ∷ []) z) left.1
         (λ h size_is. subst (λ (o : List ℕ). SoFar octets add_frag (1 + firsts older) (fragment_of f o [] p ∷ []) (part_made f [] 0 p)) (sym (held_octets f octets p.told.end h))
-        (grown f [] 0 (1 + firsts older) f.size [] p (first_sequence f follows) (first_data f follows) tt tt none_whole (first_counts f follows) (omega (arith, follows.1)) size_is refl (first_data f follows) left.0 follows.2 h))
+        (grown f [] 0 (1 + firsts older) f.size [] p (first_sequence f follows) (first_data f follows) tt tt none_whole (first_counts f follows) (omega (arith, follows.1)) size_is refl
+        (first_data f follows) left.0 follows.2 h))
         each size
     one_more rest x (y, interrupts, kind_is, from, cut) is each size =
         let is_left : after_fragment y.frame y.so_far (suc y.continuations) p ≡ Some x = sym (ap (λ (o : Option Part). after_rest o p) interrupts) ∙ is in
@@ -198,8 +200,10 @@ module _ (cost add_frag : ℕ) (octets : List ℕ) where
         subst (λ (z : FrameRef). IsHeld z octets p.told.end → length octets ≡ z.size → Done z.size (fragment_of f (octets_at store f.slot) [] p ∷ [])) done.2
         (λ h size_is. subst (λ (o : List ℕ). Done f.size (fragment_of f o [] p ∷ [])) (sym (held_octets f octets p.told.end h))
         (both (fragment_of f octets [] p ∷ []) f.size
-        (ended f [] 0 (1 + firsts older) f.size [] p (first_sequence f follows) (first_data f follows) tt tt none_whole (first_counts f follows) (omega (arith, follows.1)) size_is done.0 done.1 (λ more. absurd (omega (arith, more))))
-        (λ some. ended_whole f [] 0 (1 + firsts older) f.size [] p (first_sequence f follows) (first_data f follows) tt tt none_whole (first_counts f follows) (omega (arith, follows.1)) size_is done.0 done.1 (omega (arith, some, follows.1)))))
+        (ended f [] 0 (1 + firsts older) f.size [] p (first_sequence f follows) (first_data f follows) tt tt none_whole (first_counts f follows)
+        (omega (arith, follows.1)) size_is done.0 done.1 (λ more. absurd (omega (arith, more))))
+        (λ some. ended_whole f [] 0 (1 + firsts older) f.size [] p (first_sequence f follows) (first_data f follows) tt tt none_whole (first_counts f follows)
+        (omega (arith, follows.1)) size_is done.0 done.1 (omega (arith, some, follows.1)))))
         each size
     last_one rest x (y, interrupts, kind_is, from, cut) part is each size =
         let is_done : done_of y.frame p ≡ Some x = sym (ap (λ (o : Option Part). done_rest o p) interrupts) ∙ is in
@@ -211,9 +215,11 @@ module _ (cost add_frag : ℕ) (octets : List ℕ) where
         (subst (λ (o : List ℕ). Done y.frame.size (fragments older ++ fragment_of y.frame o y.so_far p ∷ [])) (sym (held_octets y.frame octets p.told.end h.0))
         (both (fragments older ++ fragment_of y.frame octets y.so_far p ∷ []) y.frame.size
         (ended y.frame y.so_far (suc y.continuations) (firsts older) (y.frame.size - y.place) (fragments older) p (rest_sequence y so_far kind_is)
-        (so_far.joins ∙ ap (λ n. take n octets) (sym from)) so_far.checked so_far.long so_far.whole (rest_counts y kind_is) (omega (arith, from, so_far.left)) size_is done.0 done.1 (λ more. omega (arith, from, so_far.left)))
+        (so_far.joins ∙ ap (λ n. take n octets) (sym from)) so_far.checked so_far.long so_far.whole (rest_counts y kind_is) (omega (arith, from, so_far.left)) size_is done.0 done.1
+        (λ more. omega (arith, from, so_far.left)))
         (λ some. ended_whole y.frame y.so_far (suc y.continuations) (firsts older) (y.frame.size - y.place) (fragments older) p (rest_sequence y so_far kind_is)
-        (so_far.joins ∙ ap (λ n. take n octets) (sym from)) so_far.checked so_far.long so_far.whole (rest_counts y kind_is) (omega (arith, from, so_far.left)) size_is done.0 done.1 (omega (arith, from, so_far.left))))))
+        (so_far.joins ∙ ap (λ n. take n octets) (sym from)) so_far.checked so_far.long so_far.whole (rest_counts y kind_is) (omega (arith, from, so_far.left)) size_is done.0 done.1
+        (omega (arith, from, so_far.left))))))
         each size
 
   pub so_far : (packets : List Sending) → AreSent cost add_frag packets → (x : Part) → interrupted packets ≡ Some x → EachHeld x.frame octets packets → length octets ≡ x.frame.size

@@ -58,7 +58,11 @@ unfolding part_of
 not_last f before n p lt =
     elim (eqb_tells (p.from + p.size) f.size) [
       | inl same ↦ absurd (omega (arith, same.1, lt))
-      | inr other ↦ (ap (λ (b : Bool). left_by b (record { frame = f; place = p.from + (p.size - 4); so_far = before ++ mdata_at f p.from p.size p.told.end; continuations = n })) other.0, ap (λ (b : Bool). if b then Some f else None) other.0)
+      | inr other ↦ (
+        ap (λ (b : Bool). left_by b (record { frame = f; place = p.from + (p.size - 4); so_far = before ++ mdata_at f p.from p.size p.told.end; continuations = n }))
+            other.0,
+        ap (λ (b : Bool). if b then Some f else None) other.0,
+      )
     ]
 
 next_first : (from fragment : ℕ) → from ≡ 0 → next_fragment from fragment ≡ 0
@@ -71,7 +75,8 @@ next_rest from fragment some = elim (eqb_tells from 0) [
 ]
 
 -- what goes on is what is left
-goes_left : (x : Piece) (after : Option Piece) (d : ℕ) (store : List (Option (List ℕ))) (f : FrameRef) (before : List ℕ) (n began t : ℕ) (p : Sending) → GoesOn x after d (octets_at store x.frame.slot) → x.frame ≡ f → p.from ≡ x.from → p.size ≡ d + 4
+goes_left : (x : Piece) (after : Option Piece) (d : ℕ) (store : List (Option (List ℕ))) (f : FrameRef) (before : List ℕ) (n began t : ℕ) (p : Sending)
+    → GoesOn x after d (octets_at store x.frame.slot) → x.frame ≡ f → p.from ≡ x.from → p.size ≡ d + 4
     → p.told.end ≡ Some (record { tick = t; store = store }) → 0 < d → x.frame_count ≡ (began + 3) % 4 → next_fragment x.from x.fragment ≡ n % 4 → register.Stands x.check before
     → Keeps after (Some (part_of f before n p)) began
 unfolding part_of
@@ -134,7 +139,8 @@ module _ (old new : Sender) (p : Sending) (older : List Sending) (t : ℕ) (stor
         let sizes : x.frame.size ≡ f.size = ap (λ (g : FrameRef). g.size) frame in
         let room = x.last_within in
         let last = last_left f before n (with_end p e) (omega (arith, whole, from_is, sizes, room)) in (
-          subst (λ (q : Option Part). Keeps new.kept q (is_first p.told.chosen + firsts older)) (sym (after_is ∙ last.0)) (subst (λ (o : Option Piece). Keeps o None (is_first p.told.chosen + firsts older)) (sym (same ∙ none)) tt),
+          subst (λ (q : Option Part). Keeps new.kept q (is_first p.told.chosen + firsts older)) (sym (after_is ∙ last.0))
+              (subst (λ (o : Option Piece). Keeps o None (is_first p.told.chosen + firsts older)) (sym (same ∙ none)) tt),
           ends.1 ∙ sym kind_is,
           ends.2 ∙ sym from_is,
           ends.3 ∙ sym size_is,
@@ -152,7 +158,8 @@ module _ (old new : Sender) (p : Sending) (older : List Sending) (t : ℕ) (stor
           done ∙ (sym more.1 ∙ sym done_is),
         )
 
-  fragment_leaves : (cost add_frag : ℕ) → Follows cost add_frag p.told.chosen older p → (x : Piece) → EndsPiece old new x store sent → Does (task.Fragment x) old.kept p older → Leaves new.kept sent (with_end p e) older
+  fragment_leaves : (cost add_frag : ℕ) → Follows cost add_frag p.told.chosen older p → (x : Piece) → EndsPiece old new x store sent → Does (task.Fragment x) old.kept p older
+      → Leaves new.kept sent (with_end p e) older
   unfolding with_end
   fragment_leaves cost add_frag follows x ends (none, from_is, kind_is, size_is, inl (ch, count, stands)) =
       let f = subst (λ (c : Chosen). Follows cost add_frag c older p) ch follows in
@@ -195,7 +202,8 @@ same_but task.Verify old new store sent h = h.0
 same_but task.Respond old new store sent h = h.0
 same_but task.Lldp old new store sent h = h.0
 
-pub finishes : (s old new : Sender) (cost add_frag : ℕ) (calls : List Call) (g : Going) (t : ℕ) (store : List (Option (List ℕ))) (sent : Sent) → Stands s cost add_frag calls → s.going ≡ Some g → g.began ≤ t
+pub finishes : (s old new : Sender) (cost add_frag : ℕ) (calls : List Call) (g : Going) (t : ℕ) (store : List (Option (List ℕ))) (sent : Sent) → Stands s cost add_frag calls
+    → s.going ≡ Some g → g.began ≤ t
     → old.cost ≡ s.cost → old.add_frag ≡ s.add_frag → old.going ≡ None → old.last ≡ Some t → old.frame_count ≡ s.frame_count → old.kept ≡ s.kept → EndsTask g.task old new store sent
     → Stands new cost add_frag (calls ++ ended t store ∷ []) × Ends cost add_frag (calls ++ ended t store ∷ []) sent
 unfolding Leaves with_end

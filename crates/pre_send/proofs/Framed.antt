@@ -20,14 +20,16 @@ by_frame o f store is h = let g : HoldsSome (Some f) store = subst (λ (x : Opti
 task_held : (k : Task) (kept : Option Piece) (p : Sending) (older : List Sending) (store : List (Option (List ℕ))) → Does k kept p older → HoldsNewest (p ∷ older) store → HoldsTask k store
 task_held (task.Frame f) kept p older store (inl ch, keeps) h = by_frame (frame_by p.told.chosen (interrupted older)) f store (ap (λ (c : Chosen). frame_by c (interrupted older)) ch) h
 task_held (task.Frame f) kept p older store (inr ch, keeps) h = by_frame (frame_by p.told.chosen (interrupted older)) f store (ap (λ (c : Chosen). frame_by c (interrupted older)) ch) h
-task_held (task.Fragment x) kept p older store (none, from, k, size, inl (ch, count, stands)) h = by_frame (frame_by p.told.chosen (interrupted older)) x.frame store (ap (λ (c : Chosen). frame_by c (interrupted older)) ch) h
+task_held (task.Fragment x) kept p older store (none, from, k, size, inl (ch, count, stands)) h =
+    by_frame (frame_by p.told.chosen (interrupted older)) x.frame store (ap (λ (c : Chosen). frame_by c (interrupted older)) ch) h
 task_held (task.Fragment x) kept p older store (none, from, k, size, inr (ch, (part, interrupts, left))) h =
     by_frame (frame_by p.told.chosen (interrupted older)) x.frame store (ap₂ (λ (c : Chosen) (q : Option Part). frame_by c q) ch interrupts ∙ ap (λ (g : FrameRef). Some g) (sym left.frame)) h
 task_held task.Verify kept p older store does h = tt
 task_held task.Respond kept p older store does h = tt
 task_held task.Lldp kept p older store does h = tt
 
-going_held : (cost : ℕ) (o : Option Going) (kept : Option Piece) (last : Option ℕ) (packets : List Sending) (store : List (Option (List ℕ))) → IsAt cost o kept last packets → HoldsNewest packets store → HoldsGoing o store
+going_held : (cost : ℕ) (o : Option Going) (kept : Option Piece) (last : Option ℕ) (packets : List Sending) (store : List (Option (List ℕ))) → IsAt cost o kept last packets
+    → HoldsNewest packets store → HoldsGoing o store
 going_held cost None kept last packets store at h = tt
 going_held cost (Some g) kept last [] store at h = absurd at
 going_held cost (Some g) kept last (p ∷ older) store at h = task_held g.task kept p older store at.3 h
@@ -49,7 +51,8 @@ task_lent task.Verify kept p older other does h = by_octets p.told.chosen verify
 task_lent task.Respond kept p older other does h = by_octets p.told.chosen respond other does.0 h
 task_lent task.Lldp kept p older other does h = by_octets p.told.chosen lldp other does.0 h
 
-going_lent : (cost : ℕ) (o : Option Going) (kept : Option Piece) (last : Option ℕ) (packets : List Sending) (other : List ℕ) → IsAt cost o kept last packets → HasOther packets other → LendsGoing o other
+going_lent : (cost : ℕ) (o : Option Going) (kept : Option Piece) (last : Option ℕ) (packets : List Sending) (other : List ℕ) → IsAt cost o kept last packets → HasOther packets other
+    → LendsGoing o other
 going_lent cost None kept last packets other at h = tt
 going_lent cost (Some g) kept last [] other at h = absurd at
 going_lent cost (Some g) kept last (p ∷ older) other at h = task_lent g.task kept p older other at.3 h

@@ -34,7 +34,8 @@ module _ (x : Piece) (p : Sending) (octets before : List ℕ) (m : PlainPacket) 
   by_test : (b : Bool) → (p.from + p.size == x.frame.size) ≡ b → m.mdata ≡ part_at octets p.from p.size
       → m.check ≡ check_at b octets (p.from + (p.size - 4)) (before ++ part_at octets p.from p.size) → m ≡ fragment_of x.frame octets before p
   by_test b test mdata check =
-      packet_is m p.kind (part_at octets p.from p.size) (check_at (p.from + p.size == x.frame.size) octets (p.from + (p.size - 4)) (before ++ part_at octets p.from p.size)) (m_kind ∙ sym kind_is) mdata
+      packet_is m p.kind (part_at octets p.from p.size) (check_at (p.from + p.size == x.frame.size) octets (p.from + (p.size - 4)) (before ++ part_at octets p.from p.size))
+      (m_kind ∙ sym kind_is) mdata
       (check ∙ ap (λ (t : Bool). check_at t octets (p.from + (p.size - 4)) (before ++ part_at octets p.from p.size)) (sym test))
 
   by_cut : (cut : Option ℕ) → x.cut ≡ cut → PieceGives cut x octets m → m ≡ fragment_of x.frame octets before p

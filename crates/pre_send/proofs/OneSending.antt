@@ -93,7 +93,8 @@ IsWholeFrame m octets = (m.kind ≡ kind.Express) × (m.mdata ++ m.check ≡ oct
 
 module _ (cost add_frag : ℕ) (p : Sending) (older : List Sending) (f : FrameRef) (store : List (Option (List ℕ))) (octets other : List ℕ)
     (holds : HoldsAt store f.slot octets) (size : length octets ≡ f.size) (some : 64 ≤ f.size) where
-  whole_frame : (m : PlainPacket) → m.kind ≡ kind.Express → p.size ≡ f.size → m.mdata ≡ take (p.size - 4) (octets_at store f.slot) → m.check ≡ drop (p.size - 4) (octets_at store f.slot) → IsWholeFrame m octets
+  whole_frame : (m : PlainPacket) → m.kind ≡ kind.Express → p.size ≡ f.size → m.mdata ≡ take (p.size - 4) (octets_at store f.slot) → m.check ≡ drop (p.size - 4) (octets_at store f.slot)
+      → IsWholeFrame m octets
   whole_frame m k size_is mdata check =
       let same : octets_at store f.slot ≡ octets = ap held holds in (
         k,

@@ -54,7 +54,8 @@ free_from cost kept last packets t at from = (
   λ u free. (from u).0 ((free_is cost None kept last packets u at).1 free),
 )
 
-pub gone_from : (cost : ℕ) (last : Option ℕ) (t : ℕ) → ((last ≡ None) × (t ≡ 0)) ⊎ ((e : ℕ) × (last ≡ Some e) × (t ≡ e + 12 * cost)) → (u : ℕ) → (is_gone cost last u ≡ true → t ≤ u) × (t ≤ u → is_gone cost last u ≡ true)
+pub gone_from : (cost : ℕ) (last : Option ℕ) (t : ℕ) → ((last ≡ None) × (t ≡ 0)) ⊎ ((e : ℕ) × (last ≡ Some e) × (t ≡ e + 12 * cost)) → (u : ℕ) → (is_gone cost last u ≡ true → t ≤ u)
+    × (t ≤ u → is_gone cost last u ≡ true)
 gone_from cost last t (inl (none, is)) u = (λ h. omega (arith, is), λ h. ap (λ (o : Option ℕ). is_gone cost o u) none)
 gone_from cost last t (inr (e, some, is)) u = (
   λ h. let gone : nat_le (e + 12 * cost) u ≡ true = sym (ap (λ (o : Option ℕ). is_gone cost o u) some) ∙ h in omega (arith, is, leb-true (e + 12 * cost) u gone),

@@ -22,12 +22,14 @@ use Rattle.pre_send.specs.Answers.{is_part}
 use Rattle.pre_send.specs.Senders.{Does, IsAt, Stands}
 
 -- the cut that is planned is the rule's
-cut_is : (cost add_frag began w unsent : ℕ) (told : Told) (o : Option ℕ) → told.waits ≡ Some w → told.began ≡ began → IsFirstCut began w cost add_frag unsent o → IsCut cost add_frag told unsent (size_planned unsent o)
+cut_is : (cost add_frag began w unsent : ℕ) (told : Told) (o : Option ℕ) → told.waits ≡ Some w → told.began ≡ began → IsFirstCut began w cost add_frag unsent o
+    → IsCut cost add_frag told unsent (size_planned unsent o)
 cut_is cost add_frag began w unsent told o waits at found =
     subst (λ (x : Option ℕ). CutRule (Waits x) (record { tick = told.began; octet_ticks = cost; add_frag = add_frag; unsent = unsent }) (size_planned unsent o)) (sym waits)
     (subst (λ (k : ℕ). CutRule (λ t. w ≤ t) (record { tick = k; octet_ticks = cost; add_frag = add_frag; unsent = unsent }) (size_planned unsent o)) (sym at) (by_cut o found))
   where
-    by_cut : (o : Option ℕ) → IsFirstCut began w cost add_frag unsent o → CutRule (λ t. w ≤ t) (record { tick = began; octet_ticks = cost; add_frag = add_frag; unsent = unsent }) (size_planned unsent o)
+    by_cut : (o : Option ℕ) → IsFirstCut began w cost add_frag unsent o → CutRule (λ t. w ≤ t) (record { tick = began; octet_ticks = cost; add_frag = add_frag; unsent = unsent })
+        (size_planned unsent o)
     by_cut (Some d) h = inl (d, h.0, h.1, refl)
     by_cut None h = inr (h, refl)
 
@@ -52,7 +54,8 @@ kind_same x y a b c =
     ∙ ap₂ (λ (m n : ℕ). if y.from == 0 then kind.Start m else kind.Continue m n) (sym b) (sym c)
 
 -- what is no fragment stays as it was
-keep : (cost add_frag : ℕ) (ch : Chosen) (older : List Sending) (p : Sending) (told : Told) → is_part ch ≡ false → Follows cost add_frag ch older p → Follows cost add_frag ch older (retold p told p.size)
+keep : (cost add_frag : ℕ) (ch : Chosen) (older : List Sending) (p : Sending) (told : Told) → is_part ch ≡ false → Follows cost add_frag ch older p
+    → Follows cost add_frag ch older (retold p told p.size)
 unfolding retold
 keep cost add_frag (express f) older p told no_part h = h
 keep cost add_frag (whole f) older p told no_part h = h
@@ -81,8 +84,12 @@ module _ (cost add_frag : ℕ) (kept : Option Piece) (p : Sending) (older : List
       let planned : piece_size y ≡ size_planned (x.frame.size - x.from) y.cut = ap (λ (n : ℕ). size_planned n y.cut) unsent_y in
       let rule = cut_is cost add_frag began w (x.frame.size - x.from) told y.cut waits begun_at cut in (
         piece_size y,
-        subst (λ (c : Chosen). Follows cost add_frag c older (retold p told (piece_size y))) (sym ch)
-            (f.0, f.1, subst (λ (n : ℕ). IsCut cost add_frag told x.frame.size n) (sym planned) (subst (λ (n : ℕ). IsCut cost add_frag told n (size_planned (x.frame.size - x.from) y.cut)) unsent rule)),
+        subst (λ (c : Chosen). Follows cost add_frag c older (retold p told (piece_size y))) (sym ch) (
+          f.0,
+          f.1,
+          subst (λ (n : ℕ). IsCut cost add_frag told x.frame.size n) (sym planned)
+              (subst (λ (n : ℕ). IsCut cost add_frag told n (size_planned (x.frame.size - x.from) y.cut)) unsent rule),
+        ),
         (
           none,
           from_is ∙ sym from,
@@ -100,8 +107,14 @@ module _ (cost add_frag : ℕ) (kept : Option Piece) (p : Sending) (older : List
       let planned : piece_size y ≡ size_planned (x.frame.size - x.from) y.cut = ap (λ (n : ℕ). size_planned n y.cut) unsent_y in
       let rule = cut_is cost add_frag began w (x.frame.size - x.from) told y.cut waits begun_at cut in (
         piece_size y,
-        subst (λ (c : Chosen). Follows cost add_frag c older (retold p told (piece_size y))) (sym ch)
-            (f.0, f.1, f.2, f.3, subst (λ (n : ℕ). IsCut cost add_frag told (f.0.frame.size - f.0.place) n) (sym planned) (subst (λ (n : ℕ). IsCut cost add_frag told n (size_planned (x.frame.size - x.from) y.cut)) unsent rule)),
+        subst (λ (c : Chosen). Follows cost add_frag c older (retold p told (piece_size y))) (sym ch) (
+          f.0,
+          f.1,
+          f.2,
+          f.3,
+          subst (λ (n : ℕ). IsCut cost add_frag told (f.0.frame.size - f.0.place) n) (sym planned)
+              (subst (λ (n : ℕ). IsCut cost add_frag told n (size_planned (x.frame.size - x.from) y.cut)) unsent rule),
+        ),
         (
           none,
           from_is ∙ sym from,
@@ -166,7 +179,8 @@ module _ (s new : Sender) (cost add_frag : ℕ) (calls : List Call) (g ng : Goin
   place_at : (packets : List Sending) → IsAt cost (Some ng) s.kept new.last packets → IsAt cost new.going new.kept new.last packets
   place_at packets at = subst (λ (o : Option Going). IsAt cost o new.kept new.last packets) (sym going) (subst (λ (o : Option Piece). IsAt cost (Some ng) o new.last packets) (sym same_kept) at)
 
-  by_waits : (p : Sending) (older : List Sending) (w : Option ℕ) → g.waits ≡ w → GoingTold w g ng t s.cost s.add_frag → IsSending cost add_frag calls (p ∷ older) → IsAt cost (Some g) s.kept s.last (p ∷ older)
+  by_waits : (p : Sending) (older : List Sending) (w : Option ℕ) → g.waits ≡ w → GoingTold w g ng t s.cost s.add_frag → IsSending cost add_frag calls (p ∷ older)
+      → IsAt cost (Some g) s.kept s.last (p ∷ older)
       → s.frame_count ≡ firsts (p ∷ older) % 4 → Stands new cost add_frag (calls ++ waited t ∷ [])
   unfolding retold waits_told Retold
   by_waits p older (Some w) is (began, waits, work) sending at count =

@@ -34,7 +34,8 @@ use Rattle.pre_sim.specs.Sends.{BeforeEntries, AreNew, ComesPart, ComesFront, Re
 use Rattle.pre_sim.proofs.Lists.{there, count_by-append}
 use Rattle.pre_sim.proofs.NumberTests.{adds}
 use Rattle.pre_sim.proofs.StageTests.{is_settled}
-use Rattle.pre_sim.proofs.TellParts.{Takes, Fails, then_part}
+use Rattle.pre_sim.specs.Told.{Takes, Fails}
+use Rattle.pre_sim.proofs.TellParts.{then_part}
 use Rattle.pre_sim.proofs.EntriesEarly.{early_before}
 use Rattle.pre_sim.proofs.EntriesInside.{AreRising, arrivals_rise, left_of}
 use Rattle.pre_sim.proofs.EntriesLeft.{LeftLaws, left_inside, lanes_entered}

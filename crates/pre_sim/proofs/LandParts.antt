@@ -14,10 +14,11 @@ use Rattle.pre_bridge.specs.Inside.{Entry, inside}
 use Rattle.pre_sim.specs.declared.lanes.Lane.{Lane}
 use Rattle.pre_sim.specs.declared.ticks.Progress.{Progress}
 use Rattle.pre_sim.specs.Keeps.{Store, Keeps, IsKept, TakesIn}
-use Rattle.pre_sim.specs.Stands.{LanesStand, AreSentBefore, AreSetBefore, Reaches, sets_turn, sends_turn}
+use Rattle.pre_sim.specs.Stands.{LanesStand, AreSentBefore, AreSetBefore, Reaches, sends_turn}
 use Rattle.pre_sim.specs.Parts.{LegalAt, IsFront, LanesPart, LanesFront, LanesReached, SetsPart, SetsFront, ArrivalsAlias, Carries, CarriesFront, CarriesAlias, IsReached}
 use Rattle.pre_sim.proofs.Lists.{count_by-append}
-use Rattle.pre_sim.proofs.NumberTests.{adds, is_le, not_eq}
+use Rattle.pre_sim.proofs.NumberTests.{adds, is_le}
+use Rattle.pre_sim.proofs.StageTests.{set_over, sends_here}
 use Rattle.pre_sim.proofs.Delivered.{few_delivered}
 
 pub twice : (n : ℕ) → 1 + 2 * n ≡ 1 + n + n
@@ -98,14 +99,8 @@ module _ (w : Scenario) (t : ℕ) (old : Progress) where
 
   -- ---- at the expiries' end
 
-  set_over : sets_turn t (1 + 3 * A) ≡ t + 1
-  set_over = ap (λ (b : Bool). if b then t else t + 1) (not_eq (1 + 3 * A) 0 (omega arith))
-
   sends_first : sends_turn A t 0 ≡ t
   sends_first = ap (λ (b : Bool). if b then t else t + 1) (is_le 0 (1 + 3 * A) (omega arith))
-
-  sends_here : sends_turn A t (1 + 3 * A) ≡ t
-  sends_here = ap (λ (b : Bool). if b then t else t + 1) (is_le (1 + 3 * A) (1 + 3 * A) (omega arith))
 
   module _ (new : Progress) (k set : ℕ) (lanes : List Lane) (more : List Entry) (d : ℕ) (es : History) (lead : Leads k set new.store lanes more d es) (whole : k ≡ 1 + 3 * A)
       (takes : TakesIn w old.relay new.relay more) (is : new.lanes.items ≡ lanes) where
@@ -127,8 +122,8 @@ module _ (w : Scenario) (t : ℕ) (old : Progress) where
           calls = taken.0;
           relay = taken.1;
           lanes = subst (λ ls. LanesStand w (h ++ es) t (1 + 3 * A) ls (inside w.net w.streams taken.0)) (sym is) (subst (LanesStand w (h ++ es) t (1 + 3 * A) lanes) (sym taken.2) stand);
-          sets = subst (λ n. AreSetBefore w n new.set) (sym set_over) (subst (AreSetBefore w (t + 1)) (sym is_set) (lead.legal h (inside w.net w.streams r.calls) r.legal r.lanes r.sets).2);
-          sends = subst (λ n. AreSentBefore w n new.sent) (sym sends_here) (subst (AreSentBefore w t) (sym sent) (subst (λ n. AreSentBefore w n old.sent) sends_first r.sends));
+          sets = subst (λ n. AreSetBefore w n new.set) (sym (set_over A t)) (subst (AreSetBefore w (t + 1)) (sym is_set) (lead.legal h (inside w.net w.streams r.calls) r.legal r.lanes r.sets).2);
+          sends = subst (λ n. AreSentBefore w n new.sent) (sym (sends_here A t)) (subst (AreSentBefore w t) (sym sent) (subst (λ n. AreSentBefore w n old.sent) sends_first r.sends));
           deliveries = omega (arith, all, few, sends, was, is_here, delivered, r.deliveries);
           drops = dropped ∙ (r.drops ∙ omega (arith, drops));
         }

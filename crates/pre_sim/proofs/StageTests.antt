@@ -3,6 +3,7 @@ use Rattle.std.proofs.Common.{ℕ, ◌≡◌, ◌≢◌, ◌+◌, ◌*◌, ◌<�
 use Rattle.std.specs.Prelude.{nat_le, if◌then◌else◌}
 use Rattle.std.proofs.lemmas.Bool.{cases_lt}
 use Rattle.pre_sim.specs.Stages.{Stage, untouched, set_up, settled, entered, stage_at}
+use Rattle.pre_sim.specs.Stands.{sets_turn, sends_turn}
 use Rattle.pre_sim.proofs.NumberTests.{is_le, no_le, not_eq}
 
 -- a bound that the next number passes too, or doesn't
@@ -51,3 +52,10 @@ module _ (A t k a : ℕ) where
 -- after the last place of a tick each arc is at the next tick
 pub next_tick : (A t a : ℕ) → a < A → stage_at A t (2 + 4 * A) a ≡ stage_at A (t + 1) 0 a
 next_tick A t a a_lt = is_over A t (2 + 4 * A) a a_lt (omega (arith, a_lt))
+
+-- before the entries what is set at the tick is over, and what is sent isn't
+pub set_over : (A t : ℕ) → sets_turn t (1 + 3 * A) ≡ t + 1
+set_over A t = ap (λ (b : Bool). if b then t else t + 1) (not_eq (1 + 3 * A) 0 (omega arith))
+
+pub sends_here : (A t : ℕ) → sends_turn A t (1 + 3 * A) ≡ t
+sends_here A t = ap (λ (b : Bool). if b then t else t + 1) (is_le (1 + 3 * A) (1 + 3 * A) (omega arith))

@@ -6,7 +6,8 @@ use Rattle.pre_sim.specs.declared.halts.Halt.{Halt}
 use Rattle.pre_sim.specs.declared.halts.Halt.TheVariants.{Memory}
 use Rattle.pre_sim.specs.Telling.{TellsAll}
 use Rattle.pre_sim.specs.Parts.{TellsOne, TellsPart, NoArrival}
-use Rattle.pre_sim.proofs.TellParts.{Takes, Fails, part_of_one, then_front}
+use Rattle.pre_sim.specs.Told.{Takes, Fails}
+use Rattle.pre_sim.proofs.TellParts.{part_of_one, then_front}
 
 -- the watcher failed at an event
 pub one_failed : {T U : Type 0} (net : Network) (r : Result T Halt) (s : Result U Halt) (a b c : Takes) (torn : Fails) (es : History) (e : PlainEvent)

@@ -1,5 +1,5 @@
 -- What was told by a part that tells one event, or none.
-use Rattle.std.proofs.Common.{◌≡◌, ℕ, List, [], ◌∷◌, ◌++◌, Result, Ok, Err, refl, sym, subst, append_assoc}
+use Rattle.std.proofs.Common.{◌≡◌, ℕ, [], ◌∷◌, ◌++◌, Result, Ok, Err, refl, sym, subst, append_assoc}
 use Rattle.std.specs.Result.{IsErr, IsErrAnd, OnOk}
 use Rattle.std.proofs.Common.{Bool, true, false}
 use mir.Val.{bool_byte}
@@ -11,14 +11,8 @@ use Rattle.pre_sim.specs.declared.halts.Halt.{Halt}
 use Rattle.pre_sim.specs.declared.halts.Halt.TheVariants.{Stopped, Memory, Alias}
 use Rattle.pre_sim.specs.Telling.{TellsAll}
 use Rattle.pre_history.proofs.WrittenEvents.{AreWritten-append}
-use Rattle.pre_sim.specs.Told.{tells_nothing, tells_then}
+use Rattle.pre_sim.specs.Told.{Takes, Fails, tells_nothing, tells_then}
 use Rattle.pre_sim.specs.Parts.{TellsOne, TellsPart, NoArrival, count_of}
-
-abbrev pub Takes : Type 1
-Takes = List ℕ → History → Type 0
-
-abbrev pub Fails : Type 1
-Fails = List ℕ → History → PlainEvent → Type 0
 
 -- nothing
 pub part_of_none : (net : Network) (took : Takes) (Whole : History → Type 0) → Whole [] → (es : History) × TellsAll net took took es × Whole es

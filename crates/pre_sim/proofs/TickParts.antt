@@ -17,11 +17,11 @@ use Rattle.pre_sim.specs.Keeps.{Store, Keeps, IsKept}
 use Rattle.pre_sim.specs.declared.lanes.Lane.{Lane}
 use Rattle.pre_sim.specs.declared.ticks.Progress.{Progress}
 use Rattle.pre_sim.specs.Stages.{stage_at}
-use Rattle.pre_sim.specs.Stands.{LaneStands, LanesStand, AreSentBefore, AreSetBefore, Reaches, sets_turn, sends_turn}
+use Rattle.pre_sim.specs.Stands.{LaneStands, LanesStand, AreSentBefore, AreSetBefore, Reaches, sends_turn}
 use Rattle.pre_sim.specs.Parts.{LegalAt, IsFront, LanesPart, LanesFront, EntriesPart, EntriesFront, Carries, CarriesFront}
 use Rattle.pre_sim.proofs.Lists.{count_by-append, within}
-use Rattle.pre_sim.proofs.NumberTests.{adds, is_le, not_eq}
-use Rattle.pre_sim.proofs.StageTests.{next_tick}
+use Rattle.pre_sim.proofs.NumberTests.{adds, is_le}
+use Rattle.pre_sim.proofs.StageTests.{next_tick, set_over, sends_here}
 
 -- ---- one part after another
 
@@ -38,12 +38,6 @@ module _ (w : Scenario) (t : ℕ) where
   abbrev A : ℕ
   A = length w.net.arcs
 
-  set_over : sets_turn t (1 + 3 * A) ≡ t + 1
-  set_over = ap (λ (b : Bool). if b then t else t + 1) (not_eq (1 + 3 * A) 0 (omega arith))
-
-  sends_here : sends_turn A t (1 + 3 * A) ≡ t
-  sends_here = ap (λ (b : Bool). if b then t else t + 1) (is_le (1 + 3 * A) (1 + 3 * A) (omega arith))
-
   sends_next : sends_turn A (t + 1) 0 ≡ t + 1
   sends_next = ap (λ (b : Bool). if b then t + 1 else t + 1 + 1) (is_le 0 (1 + 3 * A) (omega arith))
 
@@ -57,13 +51,13 @@ module _ (w : Scenario) (t : ℕ) where
       whole A = omega arith
 
   pub entries_front : (old : Progress) (es : History) → EntriesFront w t old es → CarriesFront w t (1 + 3 * A) old es
-  entries_front old es front h r = front h r.calls r.legal r.relay r.lanes (subst (λ n. AreSentBefore w n old.sent) sends_here r.sends)
+  entries_front old es front h r = front h r.calls r.legal r.relay r.lanes (subst (λ n. AreSentBefore w n old.sent) (sends_here A t) r.sends)
 
   module _ (old mid : Progress) (c e : List Lane) (es fs : History) (first : EntriesPart w t old mid es) (is_c : c ≡ mid.lanes.items) where
     entered : (h : History) → Reaches w t (1 + 3 * A) h old → LegalAt w t (2 + 3 * A) (h ++ es) × AreSentBefore w (t + 1) mid.sent
         × ((calls : List Call) × Stands mid.relay w.net w.streams calls × LanesStand w (h ++ es) t (2 + 3 * A) c (inside w.net w.streams calls))
     entered h r =
-        let done = first.legal h r.calls r.legal r.relay r.lanes (subst (λ n. AreSentBefore w n old.sent) sends_here r.sends) in
+        let done = first.legal h r.calls r.legal r.relay r.lanes (subst (λ n. AreSentBefore w n old.sent) (sends_here A t) r.sends) in
         (done.0, done.1, (done.2.0, done.2.1, subst (λ ls. LanesStand w (h ++ es) t (2 + 3 * A) ls (inside w.net w.streams done.2.0)) (sym is_c) done.2.2))
 
     pub left : (new : Progress) (store : Store) → length e ≤ A → LanesPart w t (2 + 3 * A) A 0 store store c e [] fs → new.lanes.items ≡ e → new.relay ≡ mid.relay → new.sent ≡ mid.sent
@@ -86,7 +80,7 @@ module _ (w : Scenario) (t : ℕ) where
           calls = calls;
           relay = subst (λ (x : Relay). Stands x w.net w.streams calls) (sym relay) one.2.1;
           lanes = subst (λ ls. LanesStand w ((h ++ es) ++ fs) (t + 1) 0 ls entries) (sym is_new) (next_lanes ((h ++ es) ++ fs) e entries few stand);
-          sets = subst (AreSetBefore w (t + 1)) (sym (set ∙ first.set)) (subst (λ n. AreSetBefore w n old.set) set_over r.sets);
+          sets = subst (AreSetBefore w (t + 1)) (sym (set ∙ first.set)) (subst (λ n. AreSetBefore w n old.set) (set_over A t) r.sets);
           sends = subst (λ n. AreSentBefore w n new.sent) (sym sends_next) (subst (AreSentBefore w (t + 1)) (sym sent) one.1);
           deliveries = omega (arith, all, delivered, first.delivered, r.deliveries);
           drops = omega (arith, drops, dropped, first.drops, r.drops);

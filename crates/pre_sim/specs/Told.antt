@@ -14,10 +14,10 @@ use Rattle.pre_sim.specs.declared.runs.Step.{Step}
 use Rattle.pre_sim.specs.declared.runs.Step.TheVariants as step
 use Rattle.pre_sim.specs.Steps.{StepTells}
 
-abbrev Takes : Type 1
+abbrev pub Takes : Type 1
 Takes = List ℕ → History → Type 0
 
-abbrev Fails : Type 1
+abbrev pub Fails : Type 1
 Fails = List ℕ → History → PlainEvent → Type 0
 
 -- nothing was told

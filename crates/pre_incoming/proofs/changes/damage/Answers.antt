@@ -16,15 +16,19 @@ loop-line-preserved c =
     elim c.if-eq.branch [
       | then-eq+then-line-ordinal w ↦
           w.octets-is
-          ∙ (cut_off (c.args.smd + c.line-item.result.offset) (2 ^ 64 - 1) w.saturating_add.result c.loop-line.octets w.xor_from.new.octets w.as_slice.result.now c.line-item.result.octets w.xor_from.ensures w.saturating_add.ensures w.as_slice.ensures (omega arith)
+          ∙ (cut_off (c.args.smd + c.line-item.result.offset) (2 ^ 64 - 1)
+          w.saturating_add.result c.loop-line.octets w.xor_from.new.octets w.as_slice.result.now c.line-item.result.octets w.xor_from.ensures w.saturating_add.ensures w.as_slice.ensures (omega arith)
           ∙ (ap (xored (c.args.smd + c.line-item.result.offset) c.line-item.result.octets) c.loop-line.invariant
-          ∙ sym (applied c.args.arc.0 c.args.ordinal c.args.smd c.as_slice-line-items.result.now c.args.octets.now c.loop-line.line-index c.line-item.result at (sym c.eq.ensures ∙ w.if-eq.true) w.if-line-ordinal.true)))
+          ∙ sym (applied c.args.arc.0 c.args.ordinal c.args.smd c.as_slice-line-items.result.now c.args.octets.now c.loop-line.line-index c.line-item.result at
+          (sym c.eq.ensures ∙ w.if-eq.true) w.if-line-ordinal.true)))
       | else-eq w ↦ elim w.else-eq.branch [
         | else-eq-via-then-eq+else-line-ordinal v ↦
             w.octets-is ∙ (c.loop-line.invariant
-            ∙ sym (of_other c.args.arc.0 c.args.ordinal c.args.smd c.as_slice-line-items.result.now c.args.octets.now c.loop-line.line-index c.line-item.result at (sym c.eq.ensures ∙ v.if-eq.true) v.if-line-ordinal.false))
+            ∙ sym (of_other c.args.arc.0 c.args.ordinal c.args.smd c.as_slice-line-items.result.now c.args.octets.now c.loop-line.line-index c.line-item.result at
+            (sym c.eq.ensures ∙ v.if-eq.true) v.if-line-ordinal.false))
         | else-eq-via-else-eq v ↦
             w.octets-is ∙ (c.loop-line.invariant
-            ∙ sym (of_other_arc c.args.arc.0 c.args.ordinal c.args.smd c.as_slice-line-items.result.now c.args.octets.now c.loop-line.line-index c.line-item.result at (sym c.eq.ensures ∙ v.if-eq.false)))
+            ∙ sym (of_other_arc c.args.arc.0 c.args.ordinal c.args.smd c.as_slice-line-items.result.now c.args.octets.now c.loop-line.line-index c.line-item.result at
+            (sym c.eq.ensures ∙ v.if-eq.false)))
       ]
     ]

@@ -11,4 +11,5 @@ returns-clause-octets c =
     let r : Row = c.row_of-row.result.now in
     let is : r ≡ row w c.args.frame.0 = c.row_of-row.ensures.here in
     let long : 2 ≤ length r.route = c.row_of-row.ensures.row.route.long.0 in
-    octets_put w c.args.frame.0 r c.as_slice-route.result.now is (search rules) long _ _ c.prio_of.result c.as_slice.result.now c.args.into.now c.build.new.into c.in-Ok.size c.prio_of.ensures.same c.as_slice.ensures c.in-Ok.ensures.size c.in-Ok.ensures.frame
+    octets_put w c.args.frame.0 r c.as_slice-route.result.now is (search rules)
+    long _ _ c.prio_of.result c.as_slice.result.now c.args.into.now c.build.new.into c.in-Ok.size c.prio_of.ensures.same c.as_slice.ensures c.in-Ok.ensures.size c.in-Ok.ensures.frame

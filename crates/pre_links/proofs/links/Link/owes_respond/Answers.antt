@@ -20,6 +20,7 @@ returns-in-Some-None c = λ w h a t a_lt legal s heard.
 
 pub returns-in-Some-Some : goal.returns-in-Some-Some
 returns-in-Some-Some c = λ w h a t a_lt legal s heard.
-    owed_since w t h a a_lt legal c.in-Some-Some.verify.0 c.in-Some-Some.respond.0 (nat_lt c.in-Some-Some.respond.0 c.in-Some-Some.verify.0) (lt_decides c.in-Some-Some.respond.0 c.in-Some-Some.verify.0)
+    owed_since w t h a a_lt legal c.in-Some-Some.verify.0 c.in-Some-Some.respond.0 (nat_lt c.in-Some-Some.respond.0 c.in-Some-Some.verify.0)
+    (lt_decides c.in-Some-Some.respond.0 c.in-Some-Some.verify.0)
     (subst (λ o. IsLatest (Received h a outcome.Verify) (option_map (λ (x : Tick). x.0) o)) c.in-Some-Some.is-0 heard.verify)
     (subst (λ o. IsLatest (Began h a kind.Respond) (option_map (λ (x : Tick). x.0) o)) c.in-Some-Some.is-1 s.responded)
