@@ -2,13 +2,34 @@
 
 use crate::plants::{OFF, TWO_ROWS};
 use crate::running::{
-    EXAMPLE, EXAMPLE_TRACE, assert_status, assert_trace, replayed, replayed_over, wide_sink,
+    EXAMPLE, EXAMPLE_TRACE, assert_status, assert_trace, replayed, replayed_over, shelf_with,
+    wide_sink, words_of,
 };
+use pre_cli::preempt;
 use std::test::Fail;
 
 #[test]
 fn one_express_frame(rt: HostRuntime) -> Result<(), Fail> {
     assert_trace(&rt, rt.alloc(), EXAMPLE, EXAMPLE_TRACE)?;
+    Ok(())
+}
+
+/// A certificate of any version serves, with ranks or without them.
+#[test]
+fn each_version_of_a_certificate(rt: HostRuntime) -> Result<(), Fail> {
+    let alloc = rt.alloc();
+    for (version, arc) in [(1, "arc a>b 0"), (2, "arc a>b 7 1522"), (3, "arc a>b 1522")] {
+        let certificate = format!(in alloc;
+            "certificate {version}\n{arc}\nport a>b 6 143 2000 0 2143 2214\nhop x 0 2000\nbound x 2131\nend\n"
+        )?;
+        let mut shelf = shelf_with(alloc, EXAMPLE.as_bytes())?;
+        shelf.put("cert", certificate.as_bytes())?;
+        let mut sink = wide_sink(alloc)?;
+        let words = words_of(alloc, "replay pair pair cert script")?;
+        let status = preempt(alloc, words.as_slice(), &mut shelf, &mut sink);
+        assert_eq!(rt; status.number(), 0, "{version}");
+        assert_eq!(rt; sink.octets(), EXAMPLE_TRACE.as_bytes());
+    }
     Ok(())
 }
 
