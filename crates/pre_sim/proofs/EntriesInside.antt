@@ -89,11 +89,11 @@ later_dues w a t bs xs items late are =
 abbrev pub left_of : ℕ → List Entry → List Entry
 left_of t items = filter (λ p. not (is_due t p)) items
 
-none_without : (t : ℕ) (items : List Entry) → Every (λ (p : Entry). t < p.due) items → left_of t items ≡ items
+pub none_without : (t : ℕ) (items : List Entry) → Every (λ (p : Entry). t < p.due) items → left_of t items ≡ items
 none_without t [] late = refl
 none_without t (p ∷ ps) (here, more) = rw (no_le p.due t here) (ap (λ xs. p ∷ xs) (none_without t ps more))
 
-none_due : (t : ℕ) (items : List Entry) → Every (λ (p : Entry). t < p.due) items → filter (is_due t) items ≡ []
+pub none_due : (t : ℕ) (items : List Entry) → Every (λ (p : Entry). t < p.due) items → filter (is_due t) items ≡ []
 none_due t [] late = refl
 none_due t (p ∷ ps) (here, more) = rw (no_le p.due t here) (none_due t ps more)
 

@@ -43,7 +43,7 @@ use Rattle.pre_sim.proofs.EntriesNew.{are_new, entries_then}
 use Rattle.pre_sim.proofs.EntriesRun.{come_then, front_then, front_more}
 use Rattle.pre_sim.proofs.EntriesSends.{comings_are, few_handed, passed, none_left, next_sends}
 
-entries_happen : (w : Scenario) (t : ℕ) (h es : History) → es ≡ EntriesOf w t h (Comings w h t) → HappensIn w h t Phase.entries es
+pub entries_happen : (w : Scenario) (t : ℕ) (h es : History) → es ≡ EntriesOf w t h (Comings w h t) → HappensIn w h t Phase.entries es
 unfolding HappensIn
 entries_happen w t h es is = is
 

@@ -47,3 +47,4 @@ pub mod SentFrames
 pub mod LinksKept
 pub mod SetsParts
 pub mod ClosingParts
+pub mod RestingTicks

@@ -115,7 +115,7 @@ setting_is w a u n early late =
     ∙ (ap (λ xs. filter test (take n w.script.sets) ++ xs) none ∙ (append-nil (filter test (take n w.script.sets)) ∙ by_tick a u (take n w.script.sets) early))))
 
 -- before the tick and after its lines
-setting_before : (w : Scenario) (h : History) (a t n : ℕ) → AreSetBefore w t n → SettingBefore w h a t ≡ set_on a (take n w.script.sets)
+pub setting_before : (w : Scenario) (h : History) (a t n : ℕ) → AreSetBefore w t n → SettingBefore w h a t ≡ set_on a (take n w.script.sets)
 setting_before w h a zero n is = go (take n w.script.sets) is.past
   where
     go : (xs : List SetLine) → Every (λ (x : SetLine). x.tick.0 < 0) xs → setting.On ≡ set_on a xs
@@ -282,7 +282,7 @@ over_end lines sets t k same past x at is = let lt = within sets k x at in absur
 
 -- ---- all of them
 
-sets_happen : (w : Scenario) (t : ℕ) (h es : History) → es ≡ SetsAt w t → HappensIn w h t Phase.sets es
+pub sets_happen : (w : Scenario) (t : ℕ) (h es : History) → es ≡ SetsAt w t → HappensIn w h t Phase.sets es
 unfolding HappensIn
 sets_happen w t h es is = is
 
@@ -365,7 +365,7 @@ module _ (w : Scenario) (fit : AllFit w.net w.streams w.script) (t : ℕ) (from 
       later = all_behind (λ (x : SetLine). t + 1 ≤ x.tick.0) n w.script.sets later_at;
     }
 
-    all_told : es ≡ SetsAt w t
+    pub all_told : es ≡ SetsAt w t
     all_told =
         let test : SetLine → Bool = λ (x : SetLine). x.tick.0 == t in
         let none : filter test (drop n w.script.sets) ≡ [] =

@@ -31,7 +31,7 @@ module _ (w : Scenario) (h : History) (t a : ℕ) (a_lt : a < length w.net.arcs)
       (every_placed (λ (e : RingEntry). e.tick ≤ t) (Entries h a p) (λ i e at. entered_by w h t a a_lt legal p i e at))
       ∙ sym (are.numbers p)
 
-  none_waits : (p : ℕ) → frames_at rings p ≡ [] → Waiting h a p t ≡ []
+  pub none_waits : (p : ℕ) → frames_at rings p ≡ [] → Waiting h a p t ≡ []
   none_waits p none = waits p ∙ ap (map (λ (f : FrameRef). f.frame.0)) none
 
   -- where the rings of some priorities are empty, none of them has a front frame

@@ -14,3 +14,4 @@ pub mod Choices
 pub mod Starting
 pub mod Closing
 pub mod Ending
+pub mod Resting

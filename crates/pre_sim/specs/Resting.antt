@@ -1,0 +1,42 @@
+-- When nothing of a run is due at a tick.
+use Rattle.std.specs.Prelude.{ℕ, ◌≡◌, ◌≢◌, ◌<◌, ◌≤◌, ◌⊎◌, false, [], List, length, slice_get, Some}
+use Rattle.std.specs.List.{AllByRecursion as Every}
+use Rattle.pre_topo.specs.declared.arcs.Mode.TheVariants as mode
+use Rattle.pre_rings.specs.Ports.{frames_at}
+use Rattle.pre_script.specs.declared.scripts.SetLine.{SetLine}
+use Rattle.pre_send.specs.Endings.{plans_end}
+use Rattle.pre_send.specs.Senders.{is_free, is_interrupted}
+use Rattle.pre_history.specs.Scenario.{Scenario, arc, send}
+use Rattle.pre_incoming.specs.Arriving.{IsNotDue}
+use Rattle.pre_bridge.specs.declared.relays.Relay.{Relay}
+use Rattle.pre_bridge.specs.Inside.{Call, Entry, inside}
+use Rattle.pre_bridge.specs.Relays.{Stands}
+use Rattle.pre_sim.specs.declared.lanes.Lane.{Lane}
+use Rattle.pre_sim.specs.declared.ticks.Progress.{Progress}
+
+-- Nothing waits in the rings of the arc, and no frame of it is interrupted.
+abbrev pub IsEmpty : Lane → Type 0
+IsEmpty lane = ((q : ℕ) → frames_at lane.rings q ≡ []) × (is_interrupted lane.outgoing.sender ≡ false)
+
+-- Nothing of the arc is due at the tick: nothing ends on it, nothing arrives by it, and it is occupied, or nothing is there that
+-- may begin. An arc that negotiates is taken as one of which something is due at each tick.
+pub record LaneRests (w : Scenario) (t a : ℕ) (lane : Lane) : Type 0 where
+  pub calm : (arc w a).mode ≢ mode.Negotiate
+  pub no_end : plans_end lane.outgoing.sender ≢ Some t
+  pub no_arrival : IsNotDue t lane.incoming.wire.items
+  pub no_start : (is_free lane.outgoing.sender t ≡ false) ⊎ IsEmpty lane
+
+-- No frame inside a bridge comes out by the tick.
+abbrev pub RelayRests : Scenario → ℕ → Relay → Type 0
+RelayRests w t relay = (calls : List Call) → Stands relay w.net w.streams calls → Every (λ (e : Entry). t < e.due) (inside w.net w.streams calls)
+
+-- Nothing of a run is due at the tick.
+pub record Rests (w : Scenario) (t : ℕ) (p : Progress) : Type 0 where
+  pub lanes : (a : ℕ) (lane : Lane) → slice_get p.lanes.items a ≡ Some lane → LaneRests w t a lane
+  pub relay : RelayRests w t p.relay
+  pub sets : (x : SetLine) → slice_get w.script.sets p.set ≡ Some x → x.tick.0 ≢ t
+  pub sends : p.sent < length w.script.sends → (send w p.sent).send.tick.0 ≢ t
+
+-- So it is at each tick from one on, before another.
+abbrev pub RestsUntil : Scenario → (t until : ℕ) → Progress → Type 0
+RestsUntil w t until p = (u : ℕ) → t ≤ u → u < until → Rests w u p
