@@ -38,3 +38,8 @@ module _ (w : Scenario) (a : ℕ) (p : OnWire) where
 abbrev pub IsNotDue : ℕ → List OnWire → Type 0
 IsNotDue t [] = Unit {0}
 IsNotDue t (p ∷ wire) = p.due.0 ≢ t
+
+-- the first one on the wire is due at the tick
+abbrev pub IsNextDue : ℕ → List OnWire → Type 0
+IsNextDue t [] = ⊥
+IsNextDue t (p ∷ wire) = p.due.0 ≡ t

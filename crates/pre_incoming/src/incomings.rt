@@ -10,7 +10,7 @@ ghost use Rattle.pre_history.specs.Legal.{LegalBefore, LegalUpTo};
 ghost use Rattle.pre_laws.specs.Routed.{IsRouted};
 ghost use Rattle.pre_incoming.specs.Inputs.{HasFrames, scenario_of};
 ghost use Rattle.pre_incoming.specs.Wires.{IsOnWire, Receives};
-ghost use Rattle.pre_incoming.specs.Arriving.{Comes, HasFront, IsNotDue};
+ghost use Rattle.pre_incoming.specs.Arriving.{Comes, HasFront, IsNextDue, IsNotDue};
 ghost use Rattle.pre_incoming.specs.Landings.{HoldsFrame, Lands};
 
 use crate::changes::{damage, is_lost, smd_place};
@@ -80,6 +80,13 @@ impl Incoming {
             → CountersOf (Air w h a) (length (Arrivals h a)) result.frame_ass_error result.frame_smd_error result.frame_ass_ok result.frag_count_rx }
     {
         self.receiver.counters()
+    }
+
+    /// The tick at which the next mPacket on the wire is due, None exactly where there is none.
+    pub fn due(&self) -> Option<Tick>
+        ensures { MatchOption result (self.now.wire.items ≡ []) (λ due. IsNextDue due.0 self.now.wire.items) }
+    {
+        Some(self.wire.front()?.due)
     }
 
     /// Takes the first mPacket off the wire, where it is due.

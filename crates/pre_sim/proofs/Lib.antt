@@ -48,3 +48,4 @@ pub mod LinksKept
 pub mod SetsParts
 pub mod ClosingParts
 pub mod RestingTicks
+pub mod RestingLanes

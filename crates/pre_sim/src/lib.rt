@@ -10,6 +10,7 @@ mod frames;
 mod halts;
 mod lanes;
 mod plans;
+mod resting;
 mod runs;
 mod starts;
 mod telling;

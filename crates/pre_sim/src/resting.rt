@@ -1,0 +1,114 @@
+ghost use Rattle.std.specs.Prelude.{◌≡◌, ◌≢◌, ◌<◌, ◌≤◌, ◌⊎◌, ℕ, false, IfSome, IsTrue, Some, length, slice_get, slice_index_or, vec_len};
+ghost use Rattle.pre_script.specs.declared.scripts.SetLine.{SetLine};
+ghost use Rattle.pre_send.specs.Senders.{is_free};
+ghost use Rattle.pre_history.specs.Scenario.{Scenario, arc, no_send};
+ghost use Rattle.pre_sim.specs.declared.lanes.Lane.{Lane};
+ghost use Rattle.pre_sim.specs.Resting.{IsEmpty, LaneRests, RelayRests, RestsUntil};
+ghost use Rattle.pre_sim.specs.Parts.{scenario_of};
+
+use crate::lanes::Lane;
+use crate::plans::{Plan, arc_at};
+use crate::ticks::Progress;
+use pre_base::{ArcId, Prio, Tick};
+use pre_bridge::Relay;
+use pre_script::Script;
+use pre_topo::{Arc, Mode, Network};
+
+/// The lesser of a tick and the one that is named, if one is.
+fn sooner(due: Option<Tick>, other: u64) -> u64
+    ensures least { result ≤ other }
+    ensures named { IfSome due (λ d. result ≤ d.0) }
+{
+    match due {
+        Some(tick) => tick.0.min(other),
+        None => other,
+    }
+}
+
+/// Whether nothing waits in the rings of an arc, and no frame of it is interrupted.
+fn is_empty(lane: &Lane) -> bool
+    ensures { IsTrue result → IsEmpty lane.now }
+{
+    lane.rings.highest(Prio(0), Prio(7)).is_none() && !lane.outgoing.is_interrupted()
+}
+
+/// A tick before which nothing can begin on an arc.
+fn start_due(lane: &Lane) -> u64
+    ensures { (u : ℕ) → u < result → (is_free lane.now.outgoing.sender u ≡ false) ⊎ IsEmpty lane.now }
+{
+    if is_empty(lane) {
+        return u64::MAX;
+    }
+    match lane.outgoing.free_at() {
+        Some(free) => free.0,
+        None => u64::MAX,
+    }
+}
+
+/// A tick before which nothing of an arc is due.
+fn lane_due(link: &Arc, lane: &Lane) -> u64
+    ensures { (w : Scenario) (a u : ℕ) → arc w a ≡ link.now → u < result → LaneRests w u a lane.now }
+{
+    if link.mode == Mode::Negotiate {
+        return 0;
+    }
+    let start = start_due(lane);
+    let end = sooner(lane.outgoing.ends_at(), start);
+    sooner(lane.incoming.due(), end)
+}
+
+/// A tick up to this one before which nothing of any arc is due.
+fn lanes_due(net: &Network, lanes: &[Lane], until: u64) -> u64
+    requires { length lanes.now ≡ length net.now.arcs }
+    ensures until { result ≤ until }
+    ensures rests { (w : Scenario) (a : ℕ) (lane : Lane) (u : ℕ) → w.net ≡ net.now → slice_get lanes.now a ≡ Some lane → u < result → LaneRests w u a lane }
+{
+    let mut due = until;
+    for arc in 0..lanes.len() {
+        due = due.min(lane_due(arc_at(net, ArcId(arc as u16)), &lanes[arc]));
+    }
+    due
+}
+
+/// A tick up to this one before which no frame comes out of a bridge.
+fn relay_due(relay: &Relay, until: u64) -> u64
+    ensures until { result ≤ until }
+    ensures rests { (w : Scenario) (u : ℕ) → u < result → RelayRests w u relay.now }
+{
+    sooner(relay.due(), until)
+}
+
+/// A tick before which the `set` line of this place isn't due.
+fn set_due(script: &Script, set: usize) -> u64
+    ensures { (x : SetLine) (u : ℕ) → u < result → slice_get script.now.sets set ≡ Some x → x.tick.0 ≢ u }
+{
+    match script.sets.as_slice().get(set) {
+        Some(line) => line.tick.0,
+        None => u64::MAX,
+    }
+}
+
+/// A tick before which the send of this place isn't due.
+fn send_due(script: &Script, sent: usize) -> u64
+    ensures { (u : ℕ) → u < result → sent < length script.now.sends → (slice_index_or script.now.sends sent no_send).send.tick.0 ≢ u }
+{
+    match script.sends.as_slice().get(sent) {
+        Some(line) => line.send.tick.0,
+        None => u64::MAX,
+    }
+}
+
+/// The first tick, from this one up to the last one, at which something may be due.
+pub(crate) fn next_due(plan: &Plan, next: Tick, progress: &Progress) -> Tick
+    requires lanes { vec_len progress.now.lanes ≡ length plan.now.net.now.arcs }
+    requires until { next.0 ≤ plan.now.script.now.until.0 }
+    ensures later { next.0 ≤ result.0 }
+    ensures until { result.0 ≤ plan.now.script.now.until.0 }
+    ensures rests { RestsUntil (scenario_of plan.now) next.0 result.0 progress.now }
+{
+    let script = plan.script;
+    let line = set_due(script, progress.set).min(send_due(script, progress.sent));
+    let relayed = relay_due(&progress.relay, line.min(script.until.0));
+    let due = lanes_due(plan.net, &progress.lanes, relayed);
+    Tick(due.max(next.0))
+}
