@@ -1,5 +1,5 @@
 -- At a tick at which nothing is due nothing happens, and a run stands at the next tick as it stands.
-use Rattle.std.proofs.Common.{ℕ, zero, suc, ◌≡◌, ◌≢◌, ◌==◌, ◌+◌, ◌*◌, ◌<◌, ◌≤◌, Bool, true, false, List, [], ◌∷◌, ◌++◌, length, drop, take, map, refl, sym, ◌∙◌, ap, inl, inr, arith, subst, Some, flat_map}
+use Rattle.std.proofs.Common.{ℕ, zero, suc, ◌≡◌, ◌≢◌, ◌==◌, ◌+◌, ◌-◌, ◌*◌, ◌<◌, ◌≤◌, Bool, true, false, List, [], ◌∷◌, ◌++◌, length, drop, take, map, refl, sym, ◌∙◌, ap, inl, inr, arith, subst, Some, flat_map}
 use Rattle.std.specs.Prelude.{slice_get, if◌then◌else◌}
 use Rattle.std.specs.List.{AllByRecursion as Every}
 use Rattle.std.proofs.lemmas.Bool.{cases_lt, false≢true}
@@ -228,3 +228,9 @@ rests_through w fit h p many (suc n) t rests r =
   where
     next : (x y : ℕ) → x + y + 1 ≡ x + suc y
     next x y = omega arith
+
+pub rests_to : (w : Scenario) → AllFit w.net w.streams w.script → (h : History) (p : Progress) → length p.lanes.items ≡ length w.net.arcs → (t u : ℕ) → t ≤ u
+    → RestsUntil w t u p → Reaches w t 0 h p → Reaches w u 0 h p
+rests_to w fit h p many t u le rests r =
+    let there : t + (u - t) ≡ u = omega (arith, le) in
+    subst (λ k. Reaches w k 0 h p) there (rests_through w fit h p many (u - t) t (subst (λ k. RestsUntil w t k p) (sym there) rests) r)

@@ -1,9 +1,14 @@
 -- What a step tells, by what its tick told.
-use Rattle.std.proofs.Common.{ℕ, ◌≡◌, ◌+◌, ◌≤◌, Bool, true, false, List, [], ◌∷◌, ◌++◌, sym, ◌∙◌, ap, inl, inr, arith, subst, Err}
-use Rattle.std.specs.Prelude.{◌↔◌, IsTrue}
+use Rattle.std.proofs.Common.{ℕ, ◌≡◌, ◌+◌, ◌≤◌, Bool, true, false, List, [], ◌∷◌, ◌++◌, length, sym, ◌∙◌, ap, inl, inr, arith, subst, Err}
+use Rattle.std.specs.Prelude.{◌↔◌, IsTrue, option_map}
 use Rattle.std.proofs.lemmas.Bool.{cases_eq, false≢true}
 use Rattle.pre_base.specs.declared.numbers.Tick.{Tick}
-use Rattle.pre_sim.specs.Keeps.{IsKept}
+use Rattle.pre_sim.specs.Keeps.{IsKept, AreReady}
+use Rattle.pre_sim.specs.declared.lanes.Lane.{Lane}
+use Rattle.pre_sim.specs.Reach.{AllFit, IsWithin}
+use Rattle.pre_sim.specs.Resting.{RestsUntil}
+use Rattle.pre_links.proofs.Ready.{before_later}
+use Rattle.pre_sim.proofs.RestingTicks.{rests_to}
 use Rattle.pre_history.specs.Scenario.{Scenario}
 use Rattle.pre_history.specs.History.{PlainEvent, History}
 use Rattle.pre_history.specs.Written.{IsWritten, AreWritten}
@@ -25,15 +30,16 @@ pub has_told : (s : SimView) (h : History) → Reaches s.run s.next 0 h s.progre
 has_told s h r = record { legal = r.legal; reaches = r }
 
 module _ (s v u : SimView) (same : s ≡ v) (a b : Takes) (torn : Fails) where
-  pub tells_more : u.run ≡ v.run → u.next ≡ v.next + 1 → (last : Bool) → last ≡ false → (es : History) × TellsAll v.run.net a b es
+  pub tells_more : AllFit v.run.net v.run.streams v.run.script → length u.progress.lanes.items ≡ length v.run.net.arcs → u.run ≡ v.run → v.next + 1 ≤ u.next
+      → RestsUntil v.run (v.next + 1) u.next u.progress → (last : Bool) → last ≡ false → (es : History) × TellsAll v.run.net a b es
       × AdvancePart v.run v.next v.progress u.progress last es → StepTells s step.More u a b torn
-  tells_more kept next last is (es, told, any) =
+  tells_more fit many kept later rests last is (es, told, any) =
       let part : TickPart v.run v.next v.progress u.progress es = subst (λ x. AdvancePart v.run v.next v.progress u.progress x es) is any in
       subst (λ (x : SimView). (es : History) × TellsAll x.run.net a b es × ((h : History) → HasTold x h → HasTold u (h ++ es))) (sym same) (
         es,
         told,
-        λ h has. has_told u (h ++ es) (subst (λ n. Reaches u.run n 0 (h ++ es) u.progress) (sym next)
-            (subst (λ (w : Scenario). Reaches w (v.next + 1) 0 (h ++ es) u.progress) (sym kept) (part h has.reaches))),
+        λ h has. has_told u (h ++ es) (subst (λ (w : Scenario). Reaches w u.next 0 (h ++ es) u.progress) (sym kept)
+            (rests_to v.run fit (h ++ es) u.progress many (v.next + 1) u.next later rests (part h has.reaches))),
       )
 
   pub tells_ended : (new : Progress) (last : Bool) → last ≡ true → (es : History) × TellsAll v.run.net a b es × AdvancePart v.run v.next v.progress new last es → StepTells s step.Ended u a b torn
@@ -86,6 +92,14 @@ not_last last now until off says le = elim (cases_eq now.0 until.0) [
   | inr other ↦ omega (arith, le, other)
 ]
 
--- what is kept at a tick is at the next one
-pub kept_later : (w : Scenario) (t : ℕ) (p : Progress) → IsKept w t p → IsKept w (t + 1) p
-kept_later w t p kept = record { calls = kept.calls; stands = kept.stands; latest = omega (arith, kept.latest); keeps = kept.keeps }
+-- what is kept at a tick is at later ones
+pub kept_later : (w : Scenario) (t u : ℕ) (p : Progress) → t ≤ u → IsKept w t p → IsKept w u p
+kept_later w t u p le kept = record { calls = kept.calls; stands = kept.stands; latest = omega (arith, le, kept.latest); keeps = kept.keeps }
+
+-- so are counts within their bounds
+pub within_later : (t u : ℕ) (p : Progress) → t ≤ u → IsWithin t p → IsWithin u p
+within_later t u p le is = record { sent = is.sent; dropped = omega (arith, le, is.dropped) }
+
+-- and links ready to be settled
+pub ready_later : (t u : ℕ) (lanes : List Lane) → t ≤ u → AreReady t lanes → AreReady u lanes
+ready_later t u lanes le ready a lane at = let one = ready a lane at in (omega (arith, le, one.0), before_later (option_map (λ (s : Tick). s.0) lane.link.verifier.settled) t u le one.1)

@@ -1,5 +1,5 @@
 -- What a step of a run does, by its answer.
-use Rattle.std.specs.Prelude.{◌≡◌, ℕ, ◌+◌, ◌≤◌, Bool, true, false, List, [], ◌∷◌, ◌++◌}
+use Rattle.std.specs.Prelude.{◌≡◌, ℕ, ◌<◌, ◌≤◌, Bool, true, false, List, [], ◌∷◌, ◌++◌}
 use Rattle.pre_base.specs.Faults.{Rose}
 use Rattle.pre_history.specs.History.{PlainEvent, History}
 use Rattle.pre_history.specs.Written.{IsWritten, AreWritten}
@@ -30,9 +30,9 @@ StepTells old Stopped new took took' torn =
     × ((h : History) → HasTold old h → IsFrontOfLegal old.run (h ++ (es ++ e ∷ [])))
 StepTells old Memory new took took' torn = (es : History) × TellsAll old.run.net took took' es × ((h : History) → HasTold old h → IsFrontOfLegal old.run (h ++ es))
 
--- it moves to the next tick, up to the last one, which ends the run
+-- it moves to a later tick, up to the last one, which ends the run
 abbrev pub StepMoves : Step → SimView → SimView → Type 0
-StepMoves More old new = (new.next ≡ old.next + 1) × (new.next ≤ new.run.script.until.0)
+StepMoves More old new = (old.next < new.next) × (new.next ≤ new.run.script.until.0)
 StepMoves Ended old new = old.next ≡ old.run.script.until.0
 StepMoves (Alias arc ordinal) old new = Unit {0}
 StepMoves Stopped old new = Unit {0}

@@ -4,6 +4,7 @@ ghost use Rattle.pre_sim.specs.Reach.{AllFit};
 use crate::halts::Halt;
 use crate::lanes::idle_lanes;
 use crate::plans::Plan;
+use crate::resting::next_due;
 use crate::ticks::{Progress, advance};
 use pre_base::{ArcId, Tick};
 use pre_bridge::Relay;
@@ -99,7 +100,7 @@ impl<'a> Sim<'a> {
         self.going
     }
 
-    /// Does the next tick, and tells the watcher what happens at it.
+    /// Does the next tick, and tells the watcher what happens at it. Then it goes to the first later tick at which something may be due.
     pub fn step<W: Watcher>(&mut self, watcher: &mut W) -> Step
         requires { self.old.going ≡ true }
         ensures told { StepTells self.old result self.new (W.took watcher.old) (W.took watcher.new) (W.torn watcher.new) }
@@ -112,7 +113,7 @@ impl<'a> Sim<'a> {
         let now = self.next;
         match advance(&self.plan, now, &mut self.progress, watcher) {
             Ok(false) => {
-                self.next = Tick(now.0 + 1);
+                self.next = next_due(&self.plan, Tick(now.0 + 1), &self.progress);
                 Step::More
             }
             Ok(true) => {

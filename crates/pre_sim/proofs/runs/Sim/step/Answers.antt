@@ -1,7 +1,8 @@
-use Rattle.std.proofs.Common.{rules, refl, sym, subst, ◌+◌, ◌++◌}
+use Rattle.std.proofs.Common.{rules, refl, sym, subst, arith, ◌+◌, ◌≤◌, ◌++◌}
 use Rattle.pre_sim.specs.Parts.{TickPart, AdvancePart, scenario_of}
 use Rattle.pre_sim.specs.Views.{SimView}
-use Rattle.pre_sim.proofs.StepParts.{tells_more, tells_ended, stops, finds_alias, finds_no_memory, same_alias, not_last, kept_later}
+use Rattle.pre_sim.proofs.StepParts.{tells_more, tells_ended, stops, finds_alias, finds_no_memory, same_alias, not_last, kept_later, within_later, ready_later}
+use Rattle.pre_sim.proofs.RestingTicks.{rests_to}
 use Rattle.pre_sim.proofs.runs.Sim.step.Goals as goal
 
 pub returns-in-Ok-true-clause-told : goal.returns-in-Ok-true-clause-told
@@ -12,10 +13,15 @@ returns-in-Ok-true-clause-told g c =
 
 pub returns-in-Ok-false-clause-told : goal.returns-in-Ok-false-clause-told
 returns-in-Ok-false-clause-told g c =
+    let before = c.self.invariant in
     let old : SimView = record { run = scenario_of c.self.inside.plan; progress = c.self.inside.progress; next = c.self.inside.next.0; going = c.self.inside.going } in
-    let new : SimView = record { run = scenario_of c.self.inside.plan; progress = c.advance.new.progress; next = c.self.inside.next.0 + 1; going = c.self.inside.going } in
+    let new : SimView = record { run = scenario_of c.self.inside.plan; progress = c.advance.new.progress; next = c.next_due-self-inside.result.0; going = c.self.inside.going } in
     tells_more c.args.self.now old new (sym c.self.view_is) (g.W.Watcher.took c.args.watcher.now) (g.W.Watcher.took c.advance.new.watcher) (g.W.Watcher.torn c.advance.new.watcher)
-    refl refl c.in-Ok-false.field-0 c.in-Ok-false.field-0-test c.in-Ok-false.ensures.part
+    before.0 (search rules) refl c.next_due-self-inside.ensures.later c.next_due-self-inside.ensures.rests c.in-Ok-false.field-0 c.in-Ok-false.field-0-test c.in-Ok-false.ensures.part
+
+pub next_due-self-inside-requires-clause-until : goal.next_due-self-inside-requires-clause-until
+next_due-self-inside-requires-clause-until g c =
+    not_last c.in-Ok-false.field-0 c.self.inside.next c.self.inside.plan.script.now.until c.in-Ok-false.field-0-test c.in-Ok-false.ensures.last c.self.invariant.2
 
 pub returns-in-Err-Stopped-clause-told : goal.returns-in-Err-Stopped-clause-told
 returns-in-Err-Stopped-clause-told g c =
@@ -46,11 +52,21 @@ invariant_of-self-in-Ok-false g c =
     let before = c.self.invariant in
     let reached = (before.3 (search rules)).3 in
     let w = scenario_of c.self.inside.plan in
+    let p = c.advance.new.progress in
+    let next = c.self.inside.next.0 + 1 in
+    let now = c.next_due-self-inside.result.0 in
+    let later : next ≤ now = c.next_due-self-inside.ensures.later in
     let done = c.in-Ok-false.ensures in
-    let tick : TickPart w c.self.inside.next.0 c.self.inside.progress c.advance.new.progress done.part.0 =
-    subst (λ x. AdvancePart w c.self.inside.next.0 c.self.inside.progress c.advance.new.progress x done.part.0) c.in-Ok-false.field-0-test done.part.2 in (
+    let tick : TickPart w c.self.inside.next.0 c.self.inside.progress p done.part.0 =
+    subst (λ x. AdvancePart w c.self.inside.next.0 c.self.inside.progress p x done.part.0) c.in-Ok-false.field-0-test done.part.2 in
+    let h = reached.0 ++ done.part.0 in (
       before.0,
       done.lanes,
-      not_last c.in-Ok-false.field-0 c.self.inside.next c.self.inside.plan.script.now.until c.in-Ok-false.field-0-test done.last before.2,
-      λ going. (done.counts, kept_later w c.self.inside.next.0 c.advance.new.progress done.kept, done.ready, (reached.0 ++ done.part.0, tick reached.0 reached.1)),
+      c.next_due-self-inside.ensures.until,
+      λ going. (
+        within_later next now p later done.counts,
+        kept_later w c.self.inside.next.0 now p (omega (arith, later)) done.kept,
+        ready_later next now p.lanes.items later done.ready,
+        (h, rests_to w before.0 h p (search rules) next now later c.next_due-self-inside.ensures.rests (tick reached.0 reached.1)),
+      ),
     )
