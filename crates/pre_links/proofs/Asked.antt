@@ -36,11 +36,11 @@ use Rattle.pre_links.proofs.Early.{arrived_by, begun_early}
 use Rattle.pre_links.proofs.Computed.{none_going, wanted_told}
 use Rattle.pre_links.proofs.Numbers.{is_by}
 
-and_true : (b : Bool) → (b && true) ≡ b
+pub and_true : (b : Bool) → (b && true) ≡ b
 and_true true = refl
 and_true false = refl
 
-filter_same : {X : Type 0} (f g : X → Bool) (xs : List X) → Every (λ x. f x ≡ g x) xs → filter f xs ≡ filter g xs
+pub filter_same : {X : Type 0} (f g : X → Bool) (xs : List X) → Every (λ x. f x ≡ g x) xs → filter f xs ≡ filter g xs
 filter_same f g [] all = refl
 filter_same {X} f g (x ∷ xs) (here, more) = ap (λ (b : Bool). if b then x ∷ filter f xs else filter f xs) here ∙ ap (λ (ys : List X). if g x then x ∷ ys else ys) (filter_same f g xs more)
 

@@ -28,6 +28,13 @@ module _ (w : Scenario) (t k : ℕ) (h : History) (a : ℕ) (legal : LegalUpTo w
       (begins_before (length w.net.arcs) (number (length w.net.arcs) t k) a h (placed w (number (length w.net.arcs) t k) h legal)) at in
       sooner (moments (length w.net.arcs)) b.tick t (2 + 3 * length w.net.arcs + a) k le p.1
 
+  -- an arrival at a later place is of an earlier tick
+  pub arrived_early : k ≤ 1 + length w.net.arcs + a → (i : ℕ) (x : Arrive) → slice_get (Arrivals h a) i ≡ Some x → x.tick < t
+  arrived_early le i x at =
+      let p = every_at (λ (x : Arrive). (x.arc ≡ a) × (number (length w.net.arcs) x.tick (1 + length w.net.arcs + a) < number (length w.net.arcs) t k)) (Arrivals h a) i x
+      (arrivals_before (length w.net.arcs) (number (length w.net.arcs) t k) a h (placed w (number (length w.net.arcs) t k) h legal)) at in
+      sooner (moments (length w.net.arcs)) x.tick t (1 + length w.net.arcs + a) k le p.1
+
   pub arrived_by : k < moments (length w.net.arcs) → (i : ℕ) (x : Arrive) → slice_get (Arrivals h a) i ≡ Some x → x.tick ≤ t
   arrived_by lt i x at =
       let p = every_at (λ (x : Arrive). (x.arc ≡ a) × (number (length w.net.arcs) x.tick (1 + length w.net.arcs + a) < number (length w.net.arcs) t k)) (Arrivals h a) i x

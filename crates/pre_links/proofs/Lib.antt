@@ -16,3 +16,4 @@ pub mod Settling
 pub mod Ready
 pub mod Phases
 pub mod Quiet
+pub mod RestingLinks

@@ -1,2 +1,3 @@
 pub mod Listening
 pub mod Standing
+pub mod Resting

@@ -41,6 +41,7 @@ pub struct Link {
 }
 
 impl Link {
+    ghost use Rattle.pre_links.specs.Resting.{LinkRests};
     ghost use Rattle.pre_links.specs.Standing.{IsReady, IsUpTo, LinkStands, begin_of, may_verify};
 
     /// A link of which nothing was sent or received, which waits so many ticks for a respond.
@@ -129,6 +130,20 @@ impl Link {
             → LinkStands w h a (t + 1) self.now → Decides result (LldpWanted w h a t) }
     {
         self.wants_lldp
+    }
+
+    /// A tick before which nothing of the link is due at a tick after this one, up to which it is settled.
+    pub fn due(&self, now: Tick, partner: &Partner, interval: u64) -> u64
+        requires settled { IsUpTo self.now now.0 }
+        requires interval { 1 ≤ interval }
+        ensures { (t : ℕ) → now.0 ≤ t → t + 1 < result → LinkRests interval t partner.now self.now }
+    {
+        if self.wants_lldp || self.owes_respond(partner) {
+            return 0;
+        }
+        let verify = self.verifier.may_begin_at();
+        let age = partner.keeps_after(now);
+        verify.min(age).min(interval_after(now, interval))
     }
 
     /// What an LLDP frame that begins now says (IEEE 802.3 clause 79.3.7), on an arc of this least
@@ -261,6 +276,14 @@ fn is_verified(verifier: &Verifier) -> bool
         VerifyState::Verified => true,
         _ => false,
     }
+}
+
+// A tick up to which no interval is over at a tick after this one.
+fn interval_after(now: Tick, interval: u64) -> u64
+    requires { 1 ≤ interval }
+    ensures { (t : ℕ) → now.0 < t → t < result → t % interval ≢ 0 }
+{
+    (now.0 - now.0 % interval).saturating_add(interval)
 }
 
 // Whether an LLDP frame is to be sent even where the setting stays: the interval is over, or preemption

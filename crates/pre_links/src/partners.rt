@@ -26,6 +26,7 @@ pub struct Partner {
 
 impl Partner {
     ghost use Rattle.pre_links.specs.Listening.{Hears};
+    ghost use Rattle.pre_links.specs.Resting.{KeepsAt};
 
     /// A partner of which nothing was received, whose times to live count units of so many ticks.
     pub fn unheard(unit: u64) -> Partner
@@ -70,6 +71,16 @@ impl Partner {
             → Hears w (h ++ arrival now.0 b (length (Arrivals h b)) outcome.Respond ∷ []) b self.new }
     {
         self.respond = Some(now);
+    }
+
+    // A tick up to which what was heard runs out at no tick after this one.
+    pub(crate) fn keeps_after(&self, now: Tick) -> u64
+        ensures { (t : ℕ) → now.0 < t → t < result → KeepsAt t self.now }
+    {
+        match self.neighbour.due() {
+            Some(tick) if tick.0 > now.0 => tick.0,
+            _ => u64::MAX,
+        }
     }
 
     // Whether a respond was received last at this tick.

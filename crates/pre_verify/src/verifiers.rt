@@ -1,4 +1,4 @@
-ghost use Rattle.std.specs.Prelude.{◌≡◌, ◌≤◌, ◌^◌, ◌&&◌, ◌||◌, nat_le, nat_lt, ℕ, true, false, List, [], ◌∷◌, ◌++◌, is_some, option_map, Some, None};
+ghost use Rattle.std.specs.Prelude.{◌≡◌, ◌<◌, ◌≤◌, ◌^◌, ◌&&◌, ◌||◌, nat_le, nat_lt, not, ℕ, true, false, List, [], ◌∷◌, ◌++◌, is_some, option_map, Some, None};
 ghost use Rattle.std.specs.Option.{ForSome, option_map_or};
 
 use crate::states::VerifyState;
@@ -187,6 +187,20 @@ impl Verifier {
         self.last.is_some() && self.ended.is_none()
     }
 
+    /// A tick before which none may begin, if nothing is told before: none is wanted at an earlier tick, or one is under way.
+    #[tactic(auto, unfolding(crate::specs::Verifiers::is_wanting))]
+    pub fn may_begin_at(&self) -> u64
+        ensures { (t : ℕ) → t < result → (is_wanting self.now t && not (is_under_way self.now)) ≡ false }
+    {
+        if self.is_under_way() {
+            return u64::MAX;
+        }
+        if !self.is_trying() {
+            return u64::MAX;
+        }
+        self.waits_until()
+    }
+
     // Whether a verify is due.
     #[tactic(auto, unfolding(crate::specs::Verifiers::is_wanting))]
     fn wants(&self, now: Tick) -> bool
@@ -232,6 +246,19 @@ impl Verifier {
             return false;
         }
         self.waited(self.latest)
+    }
+
+    // A tick before which a verify of the run, or the verify time after the last one, is in the way.
+    fn waits_until(&self) -> u64
+        ensures { (t : ℕ) → t < result → waited self.now t ≡ false }
+    {
+        if self.attempts == 0 {
+            return 0;
+        }
+        match self.ended {
+            Some(ended) => ended + self.wait,
+            None => u64::MAX,
+        }
     }
 
     // Whether no verify of the run, or the verify time after the last one, is in the way.
