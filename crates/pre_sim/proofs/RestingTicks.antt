@@ -1,14 +1,18 @@
 -- At a tick at which nothing is due nothing happens, and a run stands at the next tick as it stands.
-use Rattle.std.proofs.Common.{ℕ, zero, suc, ◌≡◌, ◌≢◌, ◌==◌, ◌+◌, ◌-◌, ◌*◌, ◌<◌, ◌≤◌, Bool, true, false, List, [], ◌∷◌, ◌++◌, length, drop, take, map, refl, sym, ◌∙◌, ap, inl, inr, arith, subst, Some, flat_map}
+use Rattle.std.proofs.Common.{ℕ, zero, suc, ◌≡◌, ◌≢◌, ◌⊎◌, ◌==◌, ◌+◌, ◌-◌, ◌*◌, ◌<◌, ◌≤◌, Bool, true, false, List, [], ◌∷◌, ◌++◌, length, drop, take, map, refl, sym, ◌∙◌, ap, inl, inr, arith, subst, Some, flat_map}
 use Rattle.std.specs.Prelude.{slice_get, if◌then◌else◌}
 use Rattle.std.specs.List.{AllByRecursion as Every}
 use Rattle.std.proofs.lemmas.Bool.{cases_lt, false≢true}
 use Rattle.std.proofs.lemmas.List.{append-nil, flat_map_more}
-use Rattle.pre_history.specs.Scenario.{Scenario, send, no_send}
+use Rattle.pre_topo.specs.Arcs.{reverse_of}
+use Rattle.pre_topo.specs.declared.arcs.Mode.{Mode}
+use Rattle.pre_topo.specs.declared.arcs.Mode.TheVariants as mode
+use Rattle.pre_history.specs.Scenario.{Scenario, arc, send, no_send}
 use Rattle.pre_history.specs.Moments.{Phase, Moment, moments, moment_at, phase_at}
 use Rattle.pre_history.specs.Placed.{HasPlace, number, moment_of}
 use Rattle.pre_history.specs.History.{History}
-use Rattle.pre_history.specs.Queries.{Begins, Arrivals}
+use Rattle.pre_history.specs.Queries.{Begins, Arrivals, Occupied, SettingOf}
+use Rattle.pre_history.specs.LinkState.{LldpWanted, RespondOwed, SettingBefore, VerifyWanted}
 use Rattle.pre_history.specs.Comings.{Coming, Comings, EntriesOf, sends_from}
 use Rattle.pre_history.specs.Rules.{Happens, HappensIn, SetsAt}
 use Rattle.pre_history.specs.Starts.{Item, Choice, There}
@@ -22,19 +26,25 @@ use Rattle.pre_send.specs.Senders.{is_free, is_interrupted}
 use Rattle.pre_outgoing.proofs.Asking.{ends_agree, free_agrees, rest_agrees}
 use Rattle.pre_outgoing.proofs.Keeping.{idle_ticks}
 use Rattle.pre_incoming.proofs.Happenings.{none_lands}
+use Rattle.pre_links.specs.declared.links.Link.{Link}
+use Rattle.pre_links.specs.declared.partners.Partner.{Partner}
+use Rattle.pre_links.specs.Listening.{Hears}
+use Rattle.pre_links.specs.Standing.{LinkStands}
+use Rattle.pre_links.proofs.RestingLinks.{none_told as none_told_at, owes_none, still_stands_next, wants_no_lldp, wants_no_verify}
 use Rattle.pre_sim.specs.declared.lanes.Lane.{Lane}
 use Rattle.pre_sim.specs.declared.ticks.Progress.{Progress}
 use Rattle.pre_sim.specs.Reach.{AllFit}
-use Rattle.pre_sim.specs.Resting.{IsEmpty, LaneRests, Rests, RestsUntil}
+use Rattle.pre_sim.specs.Resting.{IsEmpty, LaneRests, LinkRestsAt, Rests, RestsAmong, RestsUntil}
 use Rattle.pre_sim.specs.Stages.{untouched}
 use Rattle.pre_sim.specs.Starting.{NoneBelow}
 use Rattle.pre_sim.specs.Sends.{coming_of, handed_on}
 use Rattle.pre_sim.specs.Stands.{AreInside, AreSentBefore, AreSetBefore, LaneStands, Reaches, sends_turn}
+use Rattle.pre_sim.proofs.BegunLanes.{setting_then}
 use Rattle.pre_sim.proofs.EntriesInside.{AreRising, arrivals_rise, left_of, none_due, none_without, settled_inside}
 use Rattle.pre_sim.proofs.EntriesParts.{entries_happen}
 use Rattle.pre_sim.proofs.EntriesSends.{comings_are, none_left, passed}
 use Rattle.pre_sim.proofs.ExpiryParts.{calm_arc}
-use Rattle.pre_sim.proofs.ItemsThere.{busy_starts, idle_starts, none_first, none_for_link, none_more}
+use Rattle.pre_sim.proofs.ItemsThere.{busy_starts, idle_starts, none_first, none_more}
 use Rattle.pre_sim.proofs.Lists.{there, within}
 use Rattle.pre_sim.proofs.NumberTests.{is_le}
 use Rattle.pre_sim.proofs.SetsParts.{after_it, all_told, none_told, setting_before, sets_happen}
@@ -68,6 +78,38 @@ none_handed_on w t entries late =
     none_taken : (n : ℕ) → map coming_of (take n []) ≡ []
     none_taken zero = refl
     none_taken (suc n) = refl
+
+-- ---- a link
+
+-- It stands at the next tick as it stands, and nothing is told of it or begins for it.
+pub record IsCalm (w : Scenario) (h : History) (a t : ℕ) (link : Link) : Type 0 where
+  pub expires : HappensIn w h t (Phase.expiries a) []
+  pub stands : LinkStands w h a (t + 1) link
+  pub owes : LegalUpTo w (number (length w.net.arcs) t (2 + 3 * length w.net.arcs + a)) h → ¬ RespondOwed w h a t
+  pub verify : LegalUpTo w (number (length w.net.arcs) t (2 + 3 * length w.net.arcs + a)) h → ¬ Occupied w h a t → ¬ VerifyWanted w h a t
+  pub lldp : LegalUpTo w (number (length w.net.arcs) t (2 + 3 * length w.net.arcs + a)) h → ¬ LldpWanted w h a t
+
+link_is_calm : (w : Scenario) (h : History) (a t : ℕ) → a < length w.net.arcs → (arc w a).mode ≡ mode.Negotiate → LegalUpTo w (number (length w.net.arcs) t 0) h → (partner : Partner) (link : Link)
+    → Hears w h (reverse_of a) partner → LinkStands w h a t link → LinkRestsAt w.net.timing.interval t partner link → SettingOf w a t ≡ SettingBefore w h a t → IsCalm w h a t link
+link_is_calm w h a t a_lt talks legal partner link hears stands (s, is, rests) setting =
+    subst (λ u. LegalUpTo w (number (length w.net.arcs) u 0) h → LinkStands w h a u link → SettingOf w a u ≡ SettingBefore w h a u → IsCalm w h a u link) (sym is)
+    (λ before now same.
+    let kept = same ∙ sym (setting_then w h a s) in
+    record {
+      expires = none_told_at w h a s a_lt talks before partner link hears now rests kept;
+      stands = still_stands_next w h a s a_lt talks before partner link hears now rests kept;
+      owes = owes_none w h a s a_lt talks before partner link hears now rests kept;
+      verify = wants_no_verify w h a s a_lt talks before partner link hears now rests kept;
+      lldp = wants_no_lldp w h a s a_lt talks before partner link hears now rests kept;
+    }) legal stands setting
+
+-- an arc negotiates or doesn't
+talks_or_not : (m : Mode) → (m ≡ mode.Negotiate) ⊎ (m ≢ mode.Negotiate)
+talks_or_not mode.Negotiate = inl refl
+talks_or_not mode.Off = inr (λ e. absurd (cc e))
+talks_or_not mode.On = inr (λ e. absurd (cc e))
+
+-- ---- a tick
 
 module _ (w : Scenario) (fit : AllFit w.net w.streams w.script) (t : ℕ) (h : History) (p : Progress) (many : length p.lanes.items ≡ length w.net.arcs) (r : Reaches w t 0 h p)
     (rests : Rests w t p) where
@@ -118,8 +160,18 @@ module _ (w : Scenario) (fit : AllFit w.net w.streams w.script) (t : ℕ) (h : H
     stand : LaneStands w h a (untouched t) lane (of_arc a entries)
     stand = r.lanes a lane at
 
-    rest : LaneRests w t a lane
-    rest = rests.lanes a lane at
+    among : RestsAmong w t a lane p.lanes.items
+    among = rests.lanes a lane at
+
+    rest : LaneRests w t a among.0.partner lane
+    rest = among.2
+
+    -- the script sets nothing
+    setting_kept : SettingOf w a t ≡ SettingBefore w h a t
+    setting_kept = setting_then w h a t ∙ (setting_before w h a (t + 1) p.set set_next ∙ sym (setting_before w h a t p.set r.sets))
+
+    calm : (arc w a).mode ≡ mode.Negotiate → IsCalm w h a t lane.link
+    calm talks = link_is_calm w h a t a_lt talks r.legal.0 among.0.partner lane.link (r.lanes (reverse_of a) among.0 among.1).partner (stand.link talks) (rest.link talks) setting_kept
 
     none_ends : LegalUpTo w (number A t (1 + a)) h → HappensIn w h t (Phase.ends a) []
     none_ends legal = ends_agree w h t a lane.outgoing a_lt legal stand.outgoing rest.no_end
@@ -128,7 +180,7 @@ module _ (w : Scenario) (fit : AllFit w.net w.streams w.script) (t : ℕ) (h : H
     none_arrives legal = (none_lands w h t a a_lt (legal, r.legal.1) lane.incoming lane.incoming stand.incoming rest.no_arrival refl refl).happens
 
     none_expires : HappensIn w h t (Phase.expiries a) []
-    none_expires = calm_arc w h a t rest.calm
+    none_expires = elim (talks_or_not (arc w a).mode) [ inl talks ↦ (calm talks).expires | inr off ↦ calm_arc w h a t off ]
 
     -- none of the items is there on an empty arc that is free
     none_there : LegalUpTo w (number A t (2 + 3 * A + a)) h → IsEmpty lane → is_free lane.outgoing.sender t ≡ true → NoneBelow w h a t 7
@@ -137,8 +189,12 @@ module _ (w : Scenario) (fit : AllFit w.net w.streams w.script) (t : ℕ) (h : H
         let express : (c : Choice) → ¬ There w h a t Item.express c = λ c (f, (q, low, high, (behind, front), above), is). cc (waits q, front) in
         let preemptable : (c : Choice) → ¬ There w h a t Item.preemptable c = λ c (f, k, (q, low, high, (behind, front), above), kind, is). cc (waits q, front) in
         let left : (c : Choice) → ¬ There w h a t Item.rest c = λ c there. false≢true (sym whole ∙ (rest_agrees w h t a t true lane.outgoing a_lt legal stand.outgoing free).1 (c, there)) in
-        none_more w h a t Item.preemptable 6 refl
-        (none_more w h a t Item.rest 5 refl (none_for_link w h a t rest.calm (none_more w h a t Item.express 1 refl (none_first w h a t) express)) left) preemptable
+        let unoccupied = (free_agrees w h t a t true lane.outgoing a_lt legal stand.outgoing).0 free in
+        let below_2 = none_more w h a t Item.express 1 refl (none_first w h a t) express in
+        let below_3 = none_more w h a t Item.respond 2 refl below_2 (λ c there. (calm there.0).owes legal there.1) in
+        let below_4 = none_more w h a t Item.verify 3 refl below_3 (λ c there. (calm there.0).verify legal unoccupied there.1) in
+        let below_5 = none_more w h a t Item.lldp 4 refl below_4 (λ c there. (calm there.0).lldp legal there.1) in
+        none_more w h a t Item.preemptable 6 refl (none_more w h a t Item.rest 5 refl below_5 left) preemptable
 
     none_begins : LegalUpTo w (number A t (2 + 3 * A + a)) h → HappensIn w h t (Phase.starts a) []
     none_begins legal = elim rest.no_start [
@@ -158,7 +214,7 @@ module _ (w : Scenario) (fit : AllFit w.net w.streams w.script) (t : ℕ) (h : H
       incoming = stand.incoming;
       partner = stand.partner;
       setting = stand.setting ∙ (setting_before w h a t p.set r.sets ∙ sym (setting_before w h a (t + 1) p.set set_next));
-      link = λ negotiates. absurd (rest.calm negotiates);
+      link = λ negotiates. (calm negotiates).stands;
       inside = subst (AreInside w a (Begins h a) (Arrivals h a) (t + 1)) (none_without t (of_arc a entries) (every_filter (λ (e : Entry). t < e.due) (λ e. e.arc == a) entries late))
           (settled_inside w a t (Begins h a) (Arrivals h a) (of_arc a entries) (arrivals_rise w (number A t 0) h a a_lt r.legal.0) stand.inside);
     }

@@ -1,16 +1,20 @@
-ghost use Rattle.std.specs.Prelude.{◌≡◌, ◌≢◌, ◌<◌, ◌≤◌, ◌⊎◌, ℕ, false, IfSome, IsTrue, Some, length, slice_get, slice_index_or, vec_len};
+ghost use Rattle.std.specs.Prelude.{◌≡◌, ◌≢◌, ◌+◌, ◌<◌, ◌≤◌, ◌⊎◌, ℕ, false, IfSome, IsTrue, Some, length, slice_get, slice_index_or, vec_len};
 ghost use Rattle.pre_script.specs.declared.scripts.SetLine.{SetLine};
 ghost use Rattle.pre_send.specs.Senders.{is_free};
 ghost use Rattle.pre_history.specs.Scenario.{Scenario, arc, no_send};
 ghost use Rattle.pre_sim.specs.declared.lanes.Lane.{Lane};
-ghost use Rattle.pre_sim.specs.Resting.{IsEmpty, LaneRests, RelayRests, RestsUntil};
+ghost use Rattle.pre_sim.specs.Resting.{IsEmpty, LaneRests, RelayRests, RestsAmong, RestsUntil};
+ghost use Rattle.pre_sim.specs.Keeps.{AreSettled};
+ghost use Rattle.pre_links.specs.Standing.{IsUpTo};
 ghost use Rattle.pre_sim.specs.Parts.{scenario_of};
 
+use crate::expiries::partner_of;
 use crate::lanes::Lane;
 use crate::plans::{Plan, arc_at};
 use crate::ticks::Progress;
 use pre_base::{ArcId, Prio, Tick};
 use pre_bridge::Relay;
+use pre_links::Partner;
 use pre_script::Script;
 use pre_topo::{Arc, Mode, Network};
 
@@ -45,27 +49,33 @@ fn start_due(lane: &Lane) -> u64
     }
 }
 
-/// A tick before which nothing of an arc is due.
-fn lane_due(link: &Arc, lane: &Lane) -> u64
-    ensures { (w : Scenario) (a u : ℕ) → arc w a ≡ link.now → u < result → LaneRests w u a lane.now }
+/// A tick before which nothing of an arc is due at a tick after this one.
+fn lane_due(now: Tick, interval: u64, link: &Arc, lane: &Lane, partner: &Partner) -> u64
+    requires settled { IsUpTo lane.now.link now.0 }
+    requires interval { 1 ≤ interval }
+    ensures { (w : Scenario) (a u : ℕ) → arc w a ≡ link.now → w.net.timing.interval ≡ interval → now.0 < u → u < result → LaneRests w u a partner.now lane.now }
 {
-    if link.mode == Mode::Negotiate {
-        return 0;
-    }
     let start = start_due(lane);
     let end = sooner(lane.outgoing.ends_at(), start);
-    sooner(lane.incoming.due(), end)
+    let due = sooner(lane.incoming.due(), end);
+    if link.mode != Mode::Negotiate {
+        return due;
+    }
+    lane.link.due(now, partner, interval).min(due)
 }
 
-/// A tick up to this one before which nothing of any arc is due.
-fn lanes_due(net: &Network, lanes: &[Lane], until: u64) -> u64
-    requires { length lanes.now ≡ length net.now.arcs }
+/// A tick up to this one before which nothing of any arc is due at a tick after the one that was done.
+fn lanes_due(net: &Network, now: Tick, lanes: &[Lane], until: u64) -> u64
+    requires lanes { length lanes.now ≡ length net.now.arcs }
+    requires settled { AreSettled now.0 lanes.now }
     ensures until { result ≤ until }
-    ensures rests { (w : Scenario) (a : ℕ) (lane : Lane) (u : ℕ) → w.net ≡ net.now → slice_get lanes.now a ≡ Some lane → u < result → LaneRests w u a lane }
+    ensures rests { (w : Scenario) (a : ℕ) (lane : Lane) (u : ℕ) → w.net ≡ net.now → slice_get lanes.now a ≡ Some lane → now.0 < u → u < result → RestsAmong w u a lane lanes.now }
 {
     let mut due = until;
     for arc in 0..lanes.len() {
-        due = due.min(lane_due(arc_at(net, ArcId(arc as u16)), &lanes[arc]));
+        let link = arc_at(net, ArcId(arc as u16));
+        let partner = &lanes[partner_of(arc)].partner;
+        due = due.min(lane_due(now, net.timing.interval, link, &lanes[arc], partner));
     }
     due
 }
@@ -98,17 +108,18 @@ fn send_due(script: &Script, sent: usize) -> u64
     }
 }
 
-/// The first tick, from this one up to the last one, at which something may be due.
-pub(crate) fn next_due(plan: &Plan, next: Tick, progress: &Progress) -> Tick
+/// The first tick after this one, up to the last one, at which something may be due.
+pub(crate) fn next_due(plan: &Plan, now: Tick, progress: &Progress) -> Tick
     requires lanes { vec_len progress.now.lanes ≡ length plan.now.net.now.arcs }
-    requires until { next.0 ≤ plan.now.script.now.until.0 }
-    ensures later { next.0 ≤ result.0 }
+    requires settled { AreSettled now.0 progress.now.lanes.items }
+    requires until { now.0 + 1 ≤ plan.now.script.now.until.0 }
+    ensures later { now.0 + 1 ≤ result.0 }
     ensures until { result.0 ≤ plan.now.script.now.until.0 }
-    ensures rests { RestsUntil (scenario_of plan.now) next.0 result.0 progress.now }
+    ensures rests { RestsUntil (scenario_of plan.now) (now.0 + 1) result.0 progress.now }
 {
     let script = plan.script;
     let line = set_due(script, progress.set).min(send_due(script, progress.sent));
     let relayed = relay_due(&progress.relay, line.min(script.until.0));
-    let due = lanes_due(plan.net, &progress.lanes, relayed);
-    Tick(due.max(next.0))
+    let due = lanes_due(plan.net, now, &progress.lanes, relayed);
+    Tick(due.max(now.0 + 1))
 }

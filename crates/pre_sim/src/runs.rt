@@ -113,7 +113,7 @@ impl<'a> Sim<'a> {
         let now = self.next;
         match advance(&self.plan, now, &mut self.progress, watcher) {
             Ok(false) => {
-                self.next = next_due(&self.plan, Tick(now.0 + 1), &self.progress);
+                self.next = next_due(&self.plan, now, &self.progress);
                 Step::More
             }
             Ok(true) => {

@@ -227,6 +227,7 @@ fn run_tick<W: Watcher>(
     ensures lanes { vec_len progress.new.lanes ≡ length plan.now.net.now.arcs }
     ensures counts { IsWithin (now.0 + 1) progress.new }
     ensures kept { OnOk result (IsKept (scenario_of plan.now) now.0 progress.new) }
+    ensures settled { OnOk result (AreSettled now.0 progress.new.lanes.items) }
     ensures ready { OnOk result (AreReady (now.0 + 1) progress.new.lanes.items) }
     ensures part { TellsPart plan.now.net.now result (W.took watcher.old) (W.took watcher.new) (W.torn watcher.new)
         (λ x es. TickPart (scenario_of plan.now) now.0 progress.old progress.new es) (TickFront (scenario_of plan.now) now.0 progress.old) (CarriesAlias (scenario_of plan.now) now.0 0 progress.old) }
@@ -255,6 +256,7 @@ pub(crate) fn advance<W: Watcher>(
     ensures lanes { vec_len progress.new.lanes ≡ length plan.now.net.now.arcs }
     ensures counts { IsWithin (now.0 + 1) progress.new }
     ensures kept { OnOk result (IsKept (scenario_of plan.now) now.0 progress.new) }
+    ensures settled { OnOk result (AreSettled now.0 progress.new.lanes.items) }
     ensures ready { OnOk result (AreReady (now.0 + 1) progress.new.lanes.items) }
     ensures last { IfOk result (λ last. IsTrue last ↔ (now ≡ plan.now.script.now.until)) }
     ensures part { TellsPart plan.now.net.now result (W.took watcher.old) (W.took watcher.new) (W.torn watcher.new)
