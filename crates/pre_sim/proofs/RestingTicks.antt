@@ -34,7 +34,7 @@ use Rattle.pre_links.proofs.RestingLinks.{none_told as none_told_at, owes_none, 
 use Rattle.pre_sim.specs.declared.lanes.Lane.{Lane}
 use Rattle.pre_sim.specs.declared.ticks.Progress.{Progress}
 use Rattle.pre_sim.specs.Reach.{AllFit}
-use Rattle.pre_sim.specs.Resting.{IsEmpty, LaneRests, LinkRestsAt, Rests, RestsAmong, RestsUntil}
+use Rattle.pre_sim.specs.Resting.{IsEmpty, IsHeld, LaneRests, LinkRestsAt, Rests, RestsAmong, RestsUntil}
 use Rattle.pre_sim.specs.Stages.{untouched}
 use Rattle.pre_sim.specs.Starting.{NoneBelow}
 use Rattle.pre_sim.specs.Sends.{coming_of, handed_on}
@@ -182,12 +182,11 @@ module _ (w : Scenario) (fit : AllFit w.net w.streams w.script) (t : ℕ) (h : H
     none_expires : HappensIn w h t (Phase.expiries a) []
     none_expires = elim (talks_or_not (arc w a).mode) [ inl talks ↦ (calm talks).expires | inr off ↦ calm_arc w h a t off ]
 
-    -- none of the items is there on an empty arc that is free
-    none_there : LegalUpTo w (number A t (2 + 3 * A + a)) h → IsEmpty lane → is_free lane.outgoing.sender t ≡ true → NoneBelow w h a t 7
-    none_there legal (empty, whole) free =
-        let waits = λ (q : ℕ). none_waits w h t a a_lt legal lane.rings stand.rings q (empty q) in
-        let express : (c : Choice) → ¬ There w h a t Item.express c = λ c (f, (q, low, high, (behind, front), above), is). cc (waits q, front) in
-        let preemptable : (c : Choice) → ¬ There w h a t Item.preemptable c = λ c (f, k, (q, low, high, (behind, front), above), kind, is). cc (waits q, front) in
+    -- none of the items is there on an arc that is free, where neither an express frame is nor a preemptable one, and none is
+    -- interrupted
+    none_there : LegalUpTo w (number A t (2 + 3 * A + a)) h → ((c : Choice) → ¬ There w h a t Item.express c) → ((c : Choice) → ¬ There w h a t Item.preemptable c)
+        → is_interrupted lane.outgoing.sender ≡ false → is_free lane.outgoing.sender t ≡ true → NoneBelow w h a t 7
+    none_there legal express preemptable whole free =
         let left : (c : Choice) → ¬ There w h a t Item.rest c = λ c there. false≢true (sym whole ∙ (rest_agrees w h t a t true lane.outgoing a_lt legal stand.outgoing free).1 (c, there)) in
         let unoccupied = (free_agrees w h t a t true lane.outgoing a_lt legal stand.outgoing).0 free in
         let below_2 = none_more w h a t Item.express 1 refl (none_first w h a t) express in
@@ -196,15 +195,36 @@ module _ (w : Scenario) (fit : AllFit w.net w.streams w.script) (t : ℕ) (h : H
         let below_5 = none_more w h a t Item.lldp 4 refl below_4 (λ c there. (calm there.0).lldp legal there.1) in
         none_more w h a t Item.preemptable 6 refl (none_more w h a t Item.rest 5 refl below_5 left) preemptable
 
+    -- nothing waits
+    none_waiting : LegalUpTo w (number A t (2 + 3 * A + a)) h → IsEmpty lane → is_free lane.outgoing.sender t ≡ true → NoneBelow w h a t 7
+    none_waiting legal (empty, whole) free =
+        let waits = λ (q : ℕ). none_waits w h t a a_lt legal lane.rings stand.rings q (empty q) in
+        none_there legal (λ c (f, (q, low, high, (behind, front), above), is). cc (waits q, front)) (λ c (f, k, (q, low, high, (behind, front), above), kind, is). cc (waits q, front)) whole free
+
+    -- what waits is held back
+    none_released : LegalUpTo w (number A t (2 + 3 * A + a)) h → IsHeld (arc w a) lane → is_free lane.outgoing.sender t ≡ true → NoneBelow w h a t 7
+    none_released legal held free =
+        none_there legal (λ c (f, (q, low, high, (behind, front), above), is). cc (none_waits w h t a a_lt legal lane.rings stand.rings q (held.express q low), front))
+        (λ c (f, k, front, kind, is). elim kind [
+          | inl (active, first) ↦ held.inactive w h a t (calm held.talks).stands active
+          | inr (inactive, inl off, whole) ↦ cc (off, held.talks)
+          | inr (inactive, inr pass, whole) ↦ cc (pass, held.quiet)
+        ])
+        held.whole free
+
     none_begins : LegalUpTo w (number A t (2 + 3 * A + a)) h → HappensIn w h t (Phase.starts a) []
     none_begins legal = elim rest.no_start [
-      | inl busy ↦ busy_starts w h a t (λ free. false≢true (sym busy ∙ (free_agrees w h t a t true lane.outgoing a_lt legal stand.outgoing).1 free))
-      | inr empty ↦ go (is_free lane.outgoing.sender t) refl empty
+      | inl busy ↦ occupied busy
+      | inr (inl empty) ↦ go (is_free lane.outgoing.sender t) refl (none_waiting legal empty)
+      | inr (inr held) ↦ go (is_free lane.outgoing.sender t) refl (none_released legal held)
     ]
       where
-        go : (b : Bool) → is_free lane.outgoing.sender t ≡ b → IsEmpty lane → HappensIn w h t (Phase.starts a) []
-        go true free empty = idle_starts w h a t (none_there legal empty free)
-        go false busy empty = busy_starts w h a t (λ free. false≢true (sym busy ∙ (free_agrees w h t a t true lane.outgoing a_lt legal stand.outgoing).1 free))
+        occupied : is_free lane.outgoing.sender t ≡ false → HappensIn w h t (Phase.starts a) []
+        occupied busy = busy_starts w h a t (λ free. false≢true (sym busy ∙ (free_agrees w h t a t true lane.outgoing a_lt legal stand.outgoing).1 free))
+
+        go : (b : Bool) → is_free lane.outgoing.sender t ≡ b → (is_free lane.outgoing.sender t ≡ true → NoneBelow w h a t 7) → HappensIn w h t (Phase.starts a) []
+        go true free none = idle_starts w h a t (none free)
+        go false busy none = occupied busy
 
     -- the lane stands at the next tick
     stands_next : LaneStands w h a (untouched (t + 1)) lane (of_arc a entries)

@@ -1,13 +1,17 @@
 -- When nothing of a run is due at a tick.
 use Rattle.std.specs.Prelude.{ℕ, ◌+◌, ◌≡◌, ◌≢◌, ◌<◌, ◌≤◌, ◌⊎◌, false, [], List, length, slice_get, Some}
 use Rattle.std.specs.List.{AllByRecursion as Every}
+use Rattle.pre_topo.specs.declared.arcs.Arc.{Arc}
 use Rattle.pre_topo.specs.declared.arcs.Mode.TheVariants as mode
+use Rattle.pre_topo.specs.declared.arcs.Policy.TheVariants as policy
 use Rattle.pre_topo.specs.Arcs.{reverse_of}
 use Rattle.pre_rings.specs.Ports.{frames_at}
 use Rattle.pre_script.specs.declared.scripts.SetLine.{SetLine}
 use Rattle.pre_send.specs.Endings.{plans_end}
 use Rattle.pre_send.specs.Senders.{is_free, is_interrupted}
 use Rattle.pre_history.specs.Scenario.{Scenario, arc, send}
+use Rattle.pre_history.specs.History.{History}
+use Rattle.pre_history.specs.LinkState.{Active}
 use Rattle.pre_incoming.specs.Arriving.{IsNotDue}
 use Rattle.pre_bridge.specs.declared.relays.Relay.{Relay}
 use Rattle.pre_bridge.specs.Inside.{Call, Entry, inside}
@@ -15,12 +19,25 @@ use Rattle.pre_bridge.specs.Relays.{Stands}
 use Rattle.pre_links.specs.declared.links.Link.{Link}
 use Rattle.pre_links.specs.declared.partners.Partner.{Partner}
 use Rattle.pre_links.specs.Resting.{LinkRests}
+use Rattle.pre_links.specs.Standing.{LinkStands}
 use Rattle.pre_sim.specs.declared.lanes.Lane.{Lane}
 use Rattle.pre_sim.specs.declared.ticks.Progress.{Progress}
 
 -- Nothing waits in the rings of the arc, and no frame of it is interrupted.
 abbrev pub IsEmpty : Lane → Type 0
 IsEmpty lane = ((q : ℕ) → frames_at lane.rings q ≡ []) × (is_interrupted lane.outgoing.sender ≡ false)
+
+-- The link isn't active.
+abbrev pub IsInactive : Link → Type 0
+IsInactive link = (w : Scenario) (h : History) (a t : ℕ) → LinkStands w h a (t + 1) link → ¬ Active w h a t
+
+-- No express frame waits, and no frame is interrupted; and what else waits is held back until the link is active.
+pub record IsHeld (link : Arc) (lane : Lane) : Type 0 where
+  pub talks : link.mode ≡ mode.Negotiate
+  pub quiet : link.policy ≡ policy.Quiet
+  pub inactive : IsInactive lane.link
+  pub express : (q : ℕ) → link.express_from ≤ q → frames_at lane.rings q ≡ []
+  pub whole : is_interrupted lane.outgoing.sender ≡ false
 
 -- Nothing of the link is due at the tick.
 abbrev pub LinkRestsAt : (interval t : ℕ) → Partner → Link → Type 0
@@ -32,7 +49,7 @@ pub record LaneRests (w : Scenario) (t a : ℕ) (partner : Partner) (lane : Lane
   pub link : (arc w a).mode ≡ mode.Negotiate → LinkRestsAt w.net.timing.interval t partner lane.link
   pub no_end : plans_end lane.outgoing.sender ≢ Some t
   pub no_arrival : IsNotDue t lane.incoming.wire.items
-  pub no_start : (is_free lane.outgoing.sender t ≡ false) ⊎ IsEmpty lane
+  pub no_start : (is_free lane.outgoing.sender t ≡ false) ⊎ IsEmpty lane ⊎ IsHeld (arc w a) lane
 
 -- So it is of an arc of these, with what was received of its link partner.
 abbrev pub RestsAmong : Scenario → (t a : ℕ) → Lane → List Lane → Type 0

@@ -38,6 +38,7 @@ pub(crate) fn arc_at<'a>(net: &'a Network, arc: ArcId) -> &'a Arc
     ensures cost { (1 ≤ result.now.cost) × (result.now.cost ≤ 1000) }
     ensures delay { result.now.delay ≤ 10 ^ 9 }
     ensures add_frag { result.now.add_frag ≤ 3 }
+    ensures express { result.now.express_from < 8 }
     ensures end { result.now.to.0 < length net.now.nodes }
 {
     &net.arcs.as_slice()[arc.0 as usize]

@@ -1,9 +1,10 @@
-ghost use Rattle.std.specs.Prelude.{◌≡◌, ◌≢◌, ◌+◌, ◌<◌, ◌≤◌, ◌⊎◌, ℕ, false, IfSome, IsTrue, Some, length, slice_get, slice_index_or, vec_len};
+ghost use Rattle.std.specs.Prelude.{◌≡◌, ◌≢◌, ◌+◌, ◌<◌, ◌≤◌, ◌⊎◌, ℕ, false, IfSome, IsTrue, Some, [], length, slice_get, slice_index_or, vec_len};
 ghost use Rattle.pre_script.specs.declared.scripts.SetLine.{SetLine};
-ghost use Rattle.pre_send.specs.Senders.{is_free};
+ghost use Rattle.pre_send.specs.Senders.{is_free, is_interrupted};
+ghost use Rattle.pre_rings.specs.Ports.{frames_at};
 ghost use Rattle.pre_history.specs.Scenario.{Scenario, arc, no_send};
 ghost use Rattle.pre_sim.specs.declared.lanes.Lane.{Lane};
-ghost use Rattle.pre_sim.specs.Resting.{IsEmpty, LaneRests, RelayRests, RestsAmong, RestsUntil};
+ghost use Rattle.pre_sim.specs.Resting.{IsEmpty, IsHeld, LaneRests, RelayRests, RestsAmong, RestsUntil};
 ghost use Rattle.pre_sim.specs.Keeps.{AreSettled};
 ghost use Rattle.pre_links.specs.Standing.{IsUpTo};
 ghost use Rattle.pre_sim.specs.Parts.{scenario_of};
@@ -16,7 +17,7 @@ use pre_base::{ArcId, Prio, Tick};
 use pre_bridge::Relay;
 use pre_links::Partner;
 use pre_script::Script;
-use pre_topo::{Arc, Mode, Network};
+use pre_topo::{Arc, Mode, Network, Policy};
 
 /// The lesser of a tick and the one that is named, if one is.
 fn sooner(due: Option<Tick>, other: u64) -> u64
@@ -33,14 +34,33 @@ fn sooner(due: Option<Tick>, other: u64) -> u64
 fn is_empty(lane: &Lane) -> bool
     ensures { IsTrue result → IsEmpty lane.now }
 {
-    lane.rings.highest(Prio(0), Prio(7)).is_none() && !lane.outgoing.is_interrupted()
+    is_without(lane, Prio(0))
+}
+
+/// Whether no express frame waits for an arc and no frame is interrupted, and what else waits is held back until the link is active.
+fn is_held(link: &Arc, lane: &Lane) -> bool
+    requires { link.now.express_from < 8 }
+    ensures { IsTrue result → IsHeld link.now lane.now }
+{
+    if link.mode != Mode::Negotiate || link.policy != Policy::Quiet || lane.link.is_active() {
+        return false;
+    }
+    is_without(lane, Prio(link.express_from))
+}
+
+/// Whether no frame of this priority or a higher one waits for an arc, and none is interrupted.
+fn is_without(lane: &Lane, least: Prio) -> bool
+    ensures { IsTrue result → ((q : ℕ) → least ≤ q → frames_at lane.now.rings q ≡ []) × (is_interrupted lane.now.outgoing.sender ≡ false) }
+{
+    lane.rings.highest(least, Prio(7)).is_none() && !lane.outgoing.is_interrupted()
 }
 
 /// A tick before which nothing can begin on an arc.
-fn start_due(lane: &Lane) -> u64
-    ensures { (u : ℕ) → u < result → (is_free lane.now.outgoing.sender u ≡ false) ⊎ IsEmpty lane.now }
+fn start_due(link: &Arc, lane: &Lane) -> u64
+    requires { link.now.express_from < 8 }
+    ensures { (u : ℕ) → u < result → (is_free lane.now.outgoing.sender u ≡ false) ⊎ IsEmpty lane.now ⊎ IsHeld link.now lane.now }
 {
-    if is_empty(lane) {
+    if is_empty(lane) || is_held(link, lane) {
         return u64::MAX;
     }
     match lane.outgoing.free_at() {
@@ -53,9 +73,10 @@ fn start_due(lane: &Lane) -> u64
 fn lane_due(now: Tick, interval: u64, link: &Arc, lane: &Lane, partner: &Partner) -> u64
     requires settled { IsUpTo lane.now.link now.0 }
     requires interval { 1 ≤ interval }
+    requires express { link.now.express_from < 8 }
     ensures { (w : Scenario) (a u : ℕ) → arc w a ≡ link.now → w.net.timing.interval ≡ interval → now.0 < u → u < result → LaneRests w u a partner.now lane.now }
 {
-    let start = start_due(lane);
+    let start = start_due(link, lane);
     let end = sooner(lane.outgoing.ends_at(), start);
     let due = sooner(lane.incoming.due(), end);
     if link.mode != Mode::Negotiate {

@@ -1,4 +1,7 @@
-use Rattle.std.proofs.Common.{rules, ℕ, ◌≡◌, ◌≢◌, ◌+◌, ◌-◌, ◌<◌, arith, sym, subst}
+use Rattle.std.proofs.Common.{rules, ℕ, ◌≡◌, ◌⊎◌, ◌+◌, ◌-◌, ◌<◌, false, arith, sym, subst}
+use Rattle.pre_topo.specs.declared.arcs.Arc.{Arc}
+use Rattle.pre_send.specs.Senders.{is_free}
+use Rattle.pre_sim.specs.Resting.{IsEmpty, IsHeld}
 use Rattle.pre_links.specs.Resting.{LinkRests}
 use Rattle.pre_sim.proofs.resting.lane_due.Goals as goal
 
@@ -17,5 +20,5 @@ returns c = λ w a u is interval later early.
       );
       no_end = search rules;
       no_arrival = search rules;
-      no_start = c.start_due-start.ensures u before_start;
+      no_start = subst (λ (x : Arc). (is_free c.args.lane.now.outgoing.sender u ≡ false) ⊎ IsEmpty c.args.lane.now ⊎ IsHeld x c.args.lane.now) (sym is) (c.start_due-start.ensures u before_start);
     }
