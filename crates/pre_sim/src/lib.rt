@@ -1,4 +1,4 @@
-//! The run of a script over a network, tick by tick.
+//! The run of a script over a network, from each tick at which something may be due to the next one.
 #![tactic(auto)]
 
 mod arrivals;
