@@ -1,4 +1,4 @@
-use Rattle.pre_sim.proofs.tests.run_one_frame.Goals as goal
+use Rattle.pre_sim.proofs.tests.run.Goals as goal
 
 -- src/tests.rt: the built-in streams fit the built-in network, and a script that is read fits both
 pub make-requires-2 : goal.make-requires-2
