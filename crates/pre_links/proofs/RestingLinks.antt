@@ -1,8 +1,7 @@
 -- At a tick at which nothing of a link is due nothing is told at its arc's expiries, it stands as it is at the next tick, and
 -- nothing begins for it.
-use Rattle.std.proofs.Common.{ℕ, zero, suc, ◌≡◌, ◌≢◌, ◌==◌, ◌&&◌, ◌+◌, ◌*◌, ◌%◌, ◌<◌, ◌≤◌, nat_le, not, Bool, true, false, List, [], length, refl, sym, ◌∙◌, ap, inl, inr, arith, subst, Some, None}
+use Rattle.std.proofs.Common.{ℕ, ◌≡◌, ◌≢◌, ◌==◌, ◌&&◌, ◌+◌, ◌*◌, ◌%◌, ◌<◌, ◌≤◌, nat_le, not, Bool, true, false, List, [], length, refl, sym, ◌∙◌, ap, arith, subst, Some, None}
 use Rattle.std.specs.Prelude.{◌↔◌, slice_get, if◌then◌else◌}
-use Rattle.std.specs.Bool.{Decides}
 use Rattle.std.specs.List.{AllZip}
 use Rattle.std.proofs.lemmas.Bool.{false≢true, eqb-true as same_number}
 use Rattle.pre_topo.specs.declared.arcs.Mode.TheVariants as mode
@@ -11,12 +10,11 @@ use Rattle.pre_script.specs.declared.scripts.Setting.TheVariants as settings
 use Rattle.pre_lldp.specs.Ages.{CountsEnabled, Heard, expiry, last_heard, runs_out}
 use Rattle.pre_verify.specs.Verifiers.{is_under_way, is_wanting}
 use Rattle.pre_verify.proofs.Standing.{going-is, wanted_at-is}
-use Rattle.pre_history.specs.declared.events.Outcome.TheVariants as outcome
 use Rattle.pre_history.specs.Scenario.{Scenario, arc}
 use Rattle.pre_history.specs.History.{Arrive, History}
 use Rattle.pre_history.specs.Selected.{is_lldp_result}
 use Rattle.pre_history.specs.Queries.{Arrivals, Occupied, SettingOf}
-use Rattle.pre_history.specs.LinkState.{Good, LldpReceived, LldpWanted, Received, RespondOwed, VerifyWanted}
+use Rattle.pre_history.specs.LinkState.{Good, LldpReceived, LldpWanted, RespondOwed, VerifyWanted}
 use Rattle.pre_history.specs.Moments.{Phase}
 use Rattle.pre_history.specs.Placed.{moment_of, number}
 use Rattle.pre_history.specs.Rules.{HappensIn}
@@ -25,7 +23,7 @@ use Rattle.pre_history.proofs.Known.{one_given}
 use Rattle.pre_history.proofs.LinkTests.{good_heard}
 use Rattle.pre_history.proofs.Lists.{every_placed, found_at}
 use Rattle.pre_links.specs.Listening.{Hears, LldpArrivals, SaysOn}
-use Rattle.pre_links.specs.Resting.{KeepsAt, LinkRests}
+use Rattle.pre_links.specs.Resting.{LinkRests}
 use Rattle.pre_links.specs.Standing.{IsQuiet, LinkStands}
 use Rattle.pre_links.specs.declared.links.Link.{Link}
 use Rattle.pre_links.specs.declared.partners.Partner.{Partner}

@@ -1,5 +1,5 @@
 -- At a tick at which nothing is due nothing happens, and a run stands at the next tick as it stands.
-use Rattle.std.proofs.Common.{ℕ, zero, suc, ◌≡◌, ◌≢◌, ◌⊎◌, ◌==◌, ◌+◌, ◌-◌, ◌*◌, ◌<◌, ◌≤◌, Bool, true, false, List, [], ◌∷◌, ◌++◌, length, drop, take, map, refl, sym, ◌∙◌, ap, inl, inr, arith, subst, Some, flat_map}
+use Rattle.std.proofs.Common.{ℕ, zero, suc, ◌≡◌, ◌≢◌, ◌⊎◌, ◌==◌, ◌+◌, ◌-◌, ◌*◌, ◌<◌, ◌≤◌, Bool, true, false, List, [], ◌++◌, length, take, map, refl, sym, ◌∙◌, ap, inl, inr, arith, subst, Some, flat_map}
 use Rattle.std.specs.Prelude.{slice_get, if◌then◌else◌}
 use Rattle.std.specs.List.{AllByRecursion as Every}
 use Rattle.std.proofs.lemmas.Bool.{cases_lt, false≢true}
@@ -13,7 +13,7 @@ use Rattle.pre_history.specs.Placed.{HasPlace, number, moment_of}
 use Rattle.pre_history.specs.History.{History}
 use Rattle.pre_history.specs.Queries.{Begins, Arrivals, Occupied, SettingOf}
 use Rattle.pre_history.specs.LinkState.{LldpWanted, RespondOwed, SettingBefore, VerifyWanted}
-use Rattle.pre_history.specs.Comings.{Coming, Comings, EntriesOf, sends_from}
+use Rattle.pre_history.specs.Comings.{Comings, EntriesOf, sends_from}
 use Rattle.pre_history.specs.Rules.{Happens, HappensIn, SetsAt}
 use Rattle.pre_history.specs.Starts.{Item, Choice, There}
 use Rattle.pre_history.specs.Legal.{LegalUpTo}
@@ -38,9 +38,9 @@ use Rattle.pre_sim.specs.Resting.{IsEmpty, IsHeld, LaneRests, LinkRestsAt, Rests
 use Rattle.pre_sim.specs.Stages.{untouched}
 use Rattle.pre_sim.specs.Starting.{NoneBelow}
 use Rattle.pre_sim.specs.Sends.{coming_of, handed_on}
-use Rattle.pre_sim.specs.Stands.{AreInside, AreSentBefore, AreSetBefore, LaneStands, Reaches, sends_turn}
+use Rattle.pre_sim.specs.Stands.{AreInside, AreSentBefore, AreSetBefore, LaneStands, Reaches}
 use Rattle.pre_sim.proofs.BegunLanes.{setting_then}
-use Rattle.pre_sim.proofs.EntriesInside.{AreRising, arrivals_rise, left_of, none_due, none_without, settled_inside}
+use Rattle.pre_sim.proofs.EntriesInside.{arrivals_rise, none_due, none_without, settled_inside}
 use Rattle.pre_sim.proofs.EntriesParts.{entries_happen}
 use Rattle.pre_sim.proofs.EntriesSends.{comings_are, none_left, passed}
 use Rattle.pre_sim.proofs.ExpiryParts.{calm_arc}

@@ -1,4 +1,4 @@
-use Rattle.std.proofs.Common.{rules, ℕ, ◌≡◌, ◌⊎◌, ◌+◌, ◌-◌, ◌<◌, false, arith, sym, subst}
+use Rattle.std.proofs.Common.{rules, ◌≡◌, ◌⊎◌, ◌+◌, ◌-◌, ◌<◌, false, arith, sym, subst}
 use Rattle.pre_topo.specs.declared.arcs.Arc.{Arc}
 use Rattle.pre_send.specs.Senders.{is_free}
 use Rattle.pre_sim.specs.Resting.{IsEmpty, IsHeld}
