@@ -1,6 +1,7 @@
 -- At a tick at which nothing of a link is due nothing is told at its arc's expiries, it stands as it is at the next tick, and
 -- nothing begins for it.
-use Rattle.std.proofs.Common.{ℕ, ◌≡◌, ◌≢◌, ◌==◌, ◌&&◌, ◌+◌, ◌*◌, ◌%◌, ◌<◌, ◌≤◌, nat_le, not, Bool, true, false, List, [], length, refl, sym, ◌∙◌, ap, arith, subst, Some, None}
+use Rattle.std.proofs.Common.{ℕ, ◌≡◌, ◌≢◌, ◌==◌, ◌&&◌, ◌+◌, ◌*◌, ◌%◌, ◌<◌, ◌≤◌, nat_le, not, Bool, true, false, List, []}
+use Rattle.std.proofs.Common.{length, refl, sym, ◌∙◌, ap, arith, subst, Some, None}
 use Rattle.std.specs.Prelude.{◌↔◌, slice_get, if◌then◌else◌}
 use Rattle.std.specs.List.{AllZip}
 use Rattle.std.proofs.lemmas.Bool.{false≢true, eqb-true as same_number}
