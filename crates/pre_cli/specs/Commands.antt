@@ -1,26 +1,17 @@
 -- The command that the words ask for, and its causes.
-use Rattle.std.specs.Prelude.{◌≡◌, ℕ, List, [], ◌∷◌, codes, Option, Some, None, if◌then◌else◌}
+use Rattle.std.specs.Prelude.{◌≡◌, ℕ, List, [], ◌∷◌, codes, if◌then◌else◌}
 use Rattle.std.specs.Str.{bytes_eq}
 use Rattle.pre_cli.specs.declared.statuses.Status.{Status}
 use Rattle.pre_cli.specs.declared.statuses.Status.TheVariants as status
-use Rattle.pre_cli.specs.Words.{ReplayWords, replay_named}
+use Rattle.pre_cli.specs.declared.commands.Asked.{Asked}
+use Rattle.pre_cli.specs.declared.commands.Asked.TheVariants as asked
+use Rattle.pre_cli.specs.Words.{JudgeWords, judge_words, ReplayWords, replay_words}
 use Rattle.pre_cli.specs.Answers.{Outside}
 use Rattle.pre_cli.specs.Replaying.{ReplayingCause, ReplayingLeaves}
 use Rattle.pre_cli.specs.Readings.{AnswerCause, AnswerLeaves}
 use Rattle.pre_cli.specs.Judging.{judging, Accepts, AcceptsFront, Migrates, MigratesFront}
-use Rattle.pre_cli.specs.Words.{JudgeWords, judge_named}
 use Rattle.pre_cli.specs.Listed.{ListingCause, ListingLeaves}
 use Rattle.pre_cli.specs.Certifying.{CertifyingCause, CertifyingLeaves}
-
--- the name of the file, where the words are `mpackets` and a name
-abbrev pub packets_named : List (List ℕ) → Option (List ℕ)
-packets_named (command ∷ name ∷ []) = if bytes_eq command (codes "mpackets") then Some name else None
-packets_named _ = None
-
--- the words for the network and for the streams, where they are `certify` and two more
-abbrev pub files_named : List (List ℕ) → Option (List ℕ × List ℕ)
-files_named (command ∷ net ∷ streams ∷ []) = if bytes_eq command (codes "certify") then Some (net, streams) else None
-files_named _ = None
 
 -- the command that the words ask for, with its words, or none that is known
 pub data Command : Type 0 where
@@ -31,28 +22,34 @@ pub data Command : Type 0 where
   replays : ReplayWords → Command
   unknown : Command
 
-abbrev pub replaying_or : Option ReplayWords → Command
-replaying_or (Some words) = replays words
-replaying_or None = unknown
+-- what a command's name and the words behind it ask for, by their number
+abbrev pub with_one : List ℕ → List ℕ → Command
+with_one name file = if bytes_eq name (codes "mpackets") then lists file else unknown
 
-abbrev pub migrating_or : Option JudgeWords → List (List ℕ) → Command
-migrating_or (Some files) words = migrates files
-migrating_or None words = replaying_or (replay_named words)
+abbrev pub with_two : List ℕ → List ℕ → List ℕ → Command
+with_two name net streams = if bytes_eq name (codes "certify") then certifies net streams else unknown
 
-abbrev pub judging_or : Option JudgeWords → List (List ℕ) → Command
-judging_or (Some files) words = judges files
-judging_or None words = migrating_or (judge_named (codes "migrate") words) words
+abbrev pub with_three : List ℕ → JudgeWords → Command
+with_three name words = if bytes_eq name (codes "judge") then judges words else if bytes_eq name (codes "migrate") then migrates words else unknown
 
-abbrev pub listing_or : Option (List ℕ) → List (List ℕ) → Command
-listing_or (Some name) words = lists name
-listing_or None words = judging_or (judge_named (codes "judge") words) words
-
-abbrev pub certifying_or : Option (List ℕ × List ℕ) → List (List ℕ) → Command
-certifying_or (Some files) words = certifies files.0 files.1
-certifying_or None words = listing_or (packets_named words) words
+abbrev pub with_four : List ℕ → ReplayWords → Command
+with_four name words = if bytes_eq name (codes "replay") then replays words else unknown
 
 abbrev pub command_of : List (List ℕ) → Command
-command_of words = certifying_or (files_named words) words
+command_of (name ∷ file ∷ []) = with_one name file
+command_of (name ∷ net ∷ streams ∷ []) = with_two name net streams
+command_of (name ∷ net ∷ streams ∷ certificate ∷ []) = with_three name (judge_words net streams certificate)
+command_of (name ∷ net ∷ streams ∷ certificate ∷ script ∷ []) = with_four name (replay_words net streams certificate script)
+command_of words = unknown
+
+-- the same command as the program holds it
+abbrev pub command_asked : Asked → Command
+command_asked (asked.Certifies net streams) = certifies net.now streams.now
+command_asked (asked.Lists file) = lists file.now
+command_asked (asked.Judges net streams certificate) = judges (judge_words net.now streams.now certificate.now)
+command_asked (asked.Migrates net streams certificate) = migrates (judge_words net.now streams.now certificate.now)
+command_asked (asked.Replays net streams certificate script) = replays (replay_words net.now streams.now certificate.now script.now)
+command_asked asked.Unknown = unknown
 
 -- the cause of each answer, by the command
 abbrev pub CauseBy : Command → Status → Outside → Type 0

@@ -3,7 +3,7 @@ ghost use Rattle.pre_cli.specs.Commands.{CauseOf, LeavesOf};
 
 use crate::Status;
 use crate::certifying::certify_files;
-use crate::commands::{files_named, judge_named, packets_named, replay_named};
+use crate::commands::{Asked, command_of};
 use crate::judging::{judge_files, migrate_files};
 use crate::listings::list_file;
 use crate::replays::replay_files;
@@ -36,22 +36,25 @@ pub fn preempt<H: Shelf, S: Sink>(
     ensures shelf_later { H.faults shelf.old ≤ H.faults shelf.new }
     ensures sink_later { S.faults sink.old ≤ S.faults sink.new }
 {
-    if let Some((net, streams)) = files_named(words) {
-        return certify_files(alloc, net, streams, shelf, sink);
-    }
-    if let Some(name) = packets_named(words) {
-        return list_file(alloc, name, shelf, sink);
-    }
-    if let Some((net, streams, certificate)) = judge_named(words, "judge") {
-        return judge_files(alloc, net, streams, certificate, shelf, sink);
-    }
-    if let Some((net, streams, certificate)) = judge_named(words, "migrate") {
-        return migrate_files(alloc, net, streams, certificate, shelf, sink);
-    }
-    match replay_named(words) {
-        None => Status::Words,
-        Some((net, streams, certificate, script)) => {
-            replay_files(alloc, net, streams, certificate, script, shelf, sink)
-        }
+    match command_of(words) {
+        Asked::Certifies { net, streams } => certify_files(alloc, net, streams, shelf, sink),
+        Asked::Lists { file } => list_file(alloc, file, shelf, sink),
+        Asked::Judges {
+            net,
+            streams,
+            certificate,
+        } => judge_files(alloc, net, streams, certificate, shelf, sink),
+        Asked::Migrates {
+            net,
+            streams,
+            certificate,
+        } => migrate_files(alloc, net, streams, certificate, shelf, sink),
+        Asked::Replays {
+            net,
+            streams,
+            certificate,
+            script,
+        } => replay_files(alloc, net, streams, certificate, script, shelf, sink),
+        Asked::Unknown => Status::Words,
     }
 }

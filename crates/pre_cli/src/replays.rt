@@ -19,7 +19,7 @@ use crate::curves::{prios_below, unruly_line};
 use crate::judging::{Judged, judged_named};
 use crate::{FileWord, Status};
 use pre_base::{Shelf, Sink};
-use pre_delay::{files_make_a_run, network_law};
+use pre_delay::files_make_a_run;
 use pre_laws::{deliveries_are_of_frames_sent, files_give_routes};
 use pre_script::{Script, ScriptFault, read_script};
 use pre_sim::{Sim, Step};

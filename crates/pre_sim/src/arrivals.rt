@@ -32,12 +32,13 @@ use pre_rings::{FrameRef, FrameStore};
 use pre_topo::Network;
 use pre_trace::{Event, Outcome, Watcher};
 
-/// The arrival of an mPacket at the end of an arc, where one is due: whether its frame was delivered.
+/// The arrival of an mPacket at the end of an arc, where one is due: whether its frame was delivered. What was in `octets` is gone.
 pub(crate) fn arrive_on<W: Watcher>(
     plan: &Plan,
     now: Tick,
     arc: ArcId,
     lane: &mut Lane,
+    octets: &mut [u8; GREATEST_FRAME as usize],
     relay: &mut Relay,
     store: &mut FrameStore,
     watcher: &mut W,
@@ -60,15 +61,14 @@ pub(crate) fn arrive_on<W: Watcher>(
 {
     adverts_are_sent();
     route_law();
-    let mut octets = [0u8; GREATEST_FRAME as usize];
-    let Some(landing) = land(plan, now, arc, &mut lane.incoming, &mut octets) else {
+    let Some(landing) = land(plan, now, arc, &mut lane.incoming, octets) else {
         return Ok(false);
     };
     let ordinal = landing.ord;
     let Some(outcome) = outcome_of(landing.given) else {
         return Err(Halt::Alias { arc, ordinal });
     };
-    listen(&mut lane.partner, now, landing.given, landing.size, &octets);
+    listen(&mut lane.partner, now, landing.given, landing.size, octets.as_slice());
     tell_arrival(plan.net, now, arc, ordinal, outcome, watcher)?;
     let Landed::Frame(frame) = landing.given else {
         return Ok(false);
@@ -244,9 +244,11 @@ pub(crate) fn arrivals<W: Watcher>(
     ensures same { W.same watcher.old watcher.new }
 {
     let mut delivered: u64 = 0;
+    let mut octets = [0u8; GREATEST_FRAME as usize];
     for arc in 0..lanes.len() {
         let lane = &mut lanes[arc];
-        let arrived = arrive_on(plan, now, ArcId(arc as u16), lane, relay, store, watcher)?;
+        let id = ArcId(arc as u16);
+        let arrived = arrive_on(plan, now, id, lane, &mut octets, relay, store, watcher)?;
         delivered += u64::from(arrived);
     }
     Ok(delivered)

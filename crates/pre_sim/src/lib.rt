@@ -9,6 +9,7 @@ mod expiries;
 mod frames;
 mod halts;
 mod lanes;
+mod laws;
 mod plans;
 mod resting;
 mod runs;
@@ -16,6 +17,7 @@ mod starts;
 mod telling;
 mod ticks;
 
+pub use laws::{growth_law, network_law, port_law};
 pub use runs::{Sim, Step};
 
 #[cfg(test)]
