@@ -22,7 +22,7 @@ use pre_base::{Shelf, Sink};
 use pre_delay::files_make_a_run;
 use pre_laws::{deliveries_are_of_frames_sent, files_give_routes};
 use pre_script::{Script, ScriptFault, read_script};
-use pre_sim::{Sim, Step};
+use pre_sim::{Sim, Step, network_law};
 use pre_streams::Streams;
 use pre_topo::Network;
 use pre_trace::{TraceWatcher, Watcher};

@@ -4,6 +4,8 @@
 #[cfg(test)]
 mod certificates;
 #[cfg(test)]
+mod faults;
+#[cfg(test)]
 mod listings;
 #[cfg(test)]
 mod networks;
