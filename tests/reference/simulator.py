@@ -242,10 +242,10 @@ class Run:
             return
         given, frame = lane.receiver.take(self.damaged(arc, packet))
         if given in ("verify", "respond") and packet.kind != given[0].upper():
-            raise Alias(f"alias {self.name(arc)} {packet.order}")
+            raise Alias(f"alias {arc} {packet.order}")
         if given == "frame":
             if packet.kind in (VERIFY, RESPOND) or not packet.is_last or packet.frame != frame:
-                raise Alias(f"alias {self.name(arc)} {packet.order}")
+                raise Alias(f"alias {arc} {packet.order}")
             given = "lldp" if packet.what == "lldp" else given
         self.tell(tick, "arrive", self.name(arc), packet.order, given)
         self.hear(tick, arc, given, frame)
