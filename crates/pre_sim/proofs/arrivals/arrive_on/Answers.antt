@@ -1,9 +1,9 @@
-use Rattle.std.proofs.Common.{rules, ◌∷◌, [], refl, sym, subst, take, None}
+use Rattle.std.proofs.Common.{rules, ◌∷◌, [], refl, sym, subst, None}
 use Rattle.std.proofs.lemmas.Bool.{false≢true}
 use Rattle.pre_history.specs.Moments.{Phase}
 use Rattle.pre_history.specs.Scenario.{Scenario, FrameOf}
 use Rattle.pre_history.specs.Rules.{arrival}
-use Rattle.pre_sim.specs.Arriving.{KeepsInside, Listens, delivered_at}
+use Rattle.pre_sim.specs.Arriving.{KeepsInside, delivered_at}
 use Rattle.pre_sim.specs.Telling.{TellsAll}
 use Rattle.pre_sim.specs.Told.{tells_nothing, tells_then}
 use Rattle.pre_sim.specs.Parts.{ArrivalPart, LaneAlias, LaneFront, TellsOne, count_of, scenario_of}
@@ -48,7 +48,7 @@ returns-in_err-tell_arrival-clause-part g c =
       lands = c.in-Some.ensures.lands;
       some = λ e. false≢true (sym (c.in-Some-outcome_of.ensures.none.1 e));
       result = c.in-Some-outcome_of.ensures.some;
-      listens = subst (λ xs. Listens t x.given (take x.size xs) old.partner c.listen.new.partner) c.as_slice.ensures c.listen.ensures.hears;
+      listens = c.listen.ensures.hears;
       unheard = c.listen.ensures.unheard;
     } in
     one_failed w.net c.tell_arrival.result c.from_residual.result
@@ -71,7 +71,7 @@ returns-in_default-given g c =
       lands = c.in-Some.ensures.lands;
       some = λ e. false≢true (sym (c.in-Some-outcome_of.ensures.none.1 e));
       result = c.in-Some-outcome_of.ensures.some;
-      listens = subst (λ xs. Listens t x.given (take x.size xs) old.partner c.listen.new.partner) c.as_slice.ensures c.listen.ensures.hears;
+      listens = c.listen.ensures.hears;
       unheard = c.listen.ensures.unheard;
     } in
     record {
@@ -107,11 +107,12 @@ returns-then-keep_inside-clause-part g c =
       lands = c.in-Some.ensures.lands;
       some = λ e. false≢true (sym (c.in-Some-outcome_of.ensures.none.1 e));
       result = c.in-Some-outcome_of.ensures.some;
-      listens = subst (λ xs. Listens t x.given (take x.size xs) old.partner c.listen.new.partner) c.as_slice.ensures c.listen.ensures.hears;
+      listens = c.listen.ensures.hears;
       unheard = c.listen.ensures.unheard;
     } in
     let user : GivesFrame w t a old c.land.new.incoming x c.land.new.into f =
-    gives_frame w t a old c.land.new.incoming x c.land.new.into (routed w c.requires.fit) (leads w t a old relay store c.requires.reached) c.in-Some.ensures.lands f c.in-Frame.is c.in-Some.ensures.frame in
+    gives_frame w t a old c.land.new.incoming x c.land.new.into (routed w c.requires.fit) (leads w t a old relay store c.requires.reached)
+    c.in-Some.ensures.lands f c.in-Frame.is c.in-Some.ensures.frame in
     let keeps = subst (KeepsInside w t a f store c.keep_inside.new.store relay c.keep_inside.new.relay) c.if-keep_inside.true c.keep_inside.ensures.inside in (
       arrival t a x.ord r ∷ [],
       c.in_ok-tell_arrival.ensures.one,
@@ -134,11 +135,12 @@ returns-in_err-deliver-clause-part g c =
       lands = c.in-Some.ensures.lands;
       some = λ e. false≢true (sym (c.in-Some-outcome_of.ensures.none.1 e));
       result = c.in-Some-outcome_of.ensures.some;
-      listens = subst (λ xs. Listens t x.given (take x.size xs) old.partner c.listen.new.partner) c.as_slice.ensures c.listen.ensures.hears;
+      listens = c.listen.ensures.hears;
       unheard = c.listen.ensures.unheard;
     } in
     let user : GivesFrame w t a old c.land.new.incoming x c.land.new.into f =
-    gives_frame w t a old c.land.new.incoming x c.land.new.into (routed w c.requires.fit) (leads w t a old relay store c.requires.reached) c.in-Some.ensures.lands f c.in-Frame.is c.in-Some.ensures.frame in
+    gives_frame w t a old c.land.new.incoming x c.land.new.into (routed w c.requires.fit) (leads w t a old relay store c.requires.reached)
+    c.in-Some.ensures.lands f c.in-Frame.is c.in-Some.ensures.frame in
     let along = c.route_law.ensures.along w.net w.streams c.requires.fit.streams_fit in
     let keeps = subst (KeepsInside w t a f store c.keep_inside.new.store relay c.keep_inside.new.relay) c.if-keep_inside.false c.keep_inside.ensures.inside in
     let last = ends_here w t a c.requires.arc c.adverts_are_sent.ensures old c.land.new.incoming c.listen.new.partner x c.land.new.into r landed
@@ -169,11 +171,12 @@ returns-clause-part g c =
       lands = c.in-Some.ensures.lands;
       some = λ e. false≢true (sym (c.in-Some-outcome_of.ensures.none.1 e));
       result = c.in-Some-outcome_of.ensures.some;
-      listens = subst (λ xs. Listens t x.given (take x.size xs) old.partner c.listen.new.partner) c.as_slice.ensures c.listen.ensures.hears;
+      listens = c.listen.ensures.hears;
       unheard = c.listen.ensures.unheard;
     } in
     let user : GivesFrame w t a old c.land.new.incoming x c.land.new.into f =
-    gives_frame w t a old c.land.new.incoming x c.land.new.into (routed w c.requires.fit) (leads w t a old relay store c.requires.reached) c.in-Some.ensures.lands f c.in-Frame.is c.in-Some.ensures.frame in
+    gives_frame w t a old c.land.new.incoming x c.land.new.into (routed w c.requires.fit) (leads w t a old relay store c.requires.reached)
+    c.in-Some.ensures.lands f c.in-Frame.is c.in-Some.ensures.frame in
     let keeps = subst (KeepsInside w t a f store c.keep_inside.new.store relay c.keep_inside.new.relay) c.if-keep_inside.false c.keep_inside.ensures.inside in
     let told = subst (λ octets. TellsAll w.net (g.W.Watcher.took c.tell_arrival.new.watcher) (g.W.Watcher.took c.deliver.new.watcher) (delivered_at w.net t a f octets ∷ []))
     user.octets c.in_ok-deliver.ensures.one in (
