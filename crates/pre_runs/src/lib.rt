@@ -12,4 +12,8 @@ mod negotiations;
 #[cfg(test)]
 mod plants;
 #[cfg(test)]
+mod readings;
+#[cfg(test)]
 mod running;
+#[cfg(test)]
+mod summaries;
