@@ -13,7 +13,8 @@ use std::test::Fail;
 #[test]
 fn figures_of_four_sends(rt: HostRuntime) -> Result<(), Fail> {
     let alloc = rt.alloc();
-    let text = "send 0 y 124\nsend 1 x 64\nsend 500 x 64\nsend 700 x 64\nsend 741 x 64\nuntil 740\n";
+    let text =
+        "send 0 y 124\nsend 1 x 64\nsend 500 x 64\nsend 700 x 64\nsend 741 x 64\nuntil 740\n";
     let (net, streams) = PREEMPTING;
     let net = read_network(alloc, net.as_bytes())?;
     let streams = read_streams(alloc, streams.as_bytes(), &net)?;

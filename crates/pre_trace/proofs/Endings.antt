@@ -40,5 +40,6 @@ few_closings placed w h legal =
     let before = no_closing_before (length w.net.arcs) (last_moment w) body (placed w (last_moment w) body legal.2.0) in
     let few = few_lines w body (length w.net.arcs) counts legal.3 in
     let ending : List PlainEvent = counts ++ PlainEvent.end (closing w body) ∷ [] in
-    let split : closings h ≡ closings ending = ap closings (legal.4 ∙ append_assoc body counts (PlainEvent.end (closing w body) ∷ [])) ∙ (filter-append is_closing body ending ∙ ap (λ (l : History). l ++ closings ending) before) in
+    let split : closings h ≡ closings ending = ap closings (legal.4 ∙ append_assoc body counts (PlainEvent.end (closing w body) ∷ []))
+    ∙ (filter-append is_closing body ending ∙ ap (λ (l : History). l ++ closings ending) before) in
     omega (arith, ap length split, length-filter is_closing ending, count_by-le-length is_closing ending, length-append counts (PlainEvent.end (closing w body) ∷ []), few, w.net.rules.arc_count.1)

@@ -37,7 +37,8 @@ set_fault net first (a ∷ b ∷ []) = set_missing (number_of first) (arc_named 
 set_fault net first (a ∷ b ∷ z ∷ rest) = refl
 
 begin_missing : (t : Option ℕ) (a : Option ℕ) (b : Option ℕ) (c : Option Kind) (d : Option What) (e : Option ℕ)
-    → fault_of (given c Word (λ c. given t Number (λ t. given a Name (λ a. given b Number (λ b. given d Number (λ d. given e Number (λ e. Ok (PlainEvent.begin (record { tick = t; arc = a; ord = b; kind = c; what = d; from = e })))))))))
+    → fault_of (given c Word (λ c. given t Number (λ t. given a Name (λ a. given b Number (λ b. given d Number
+    (λ d. given e Number (λ e. Ok (PlainEvent.begin (record { tick = t; arc = a; ord = b; kind = c; what = d; from = e })))))))))
     ≡ (if is_some c && true then first_of (missing t Number ∷ missing a Name ∷ missing b Number ∷ None ∷ missing d Number ∷ missing e Number ∷ []) else Some Word)
 begin_missing t a b None d e = refl
 begin_missing None a b (Some c) d e = refl
@@ -58,7 +59,8 @@ begin_fault net first (a ∷ b ∷ c ∷ d ∷ e ∷ []) = begin_missing (number
 begin_fault net first (a ∷ b ∷ c ∷ d ∷ e ∷ z ∷ rest) = refl
 
 ended_missing : (t : Option ℕ) (a : Option ℕ) (b : Option ℕ) (c : Option ℕ) (d : Option (List ℕ))
-    → fault_of (given t Number (λ t. given a Name (λ a. given b Number (λ b. given c Number (λ c. given d Hex (λ d. Ok (PlainEvent.ended (record { tick = t; arc = a; ord = b; size = c; check = d }))))))))
+    → fault_of (given t Number (λ t. given a Name (λ a. given b Number (λ b. given c Number (λ c. given d Hex
+    (λ d. Ok (PlainEvent.ended (record { tick = t; arc = a; ord = b; size = c; check = d }))))))))
     ≡ first_of (missing t Number ∷ missing a Name ∷ missing b Number ∷ missing c Number ∷ missing d Hex ∷ [])
 ended_missing None a b c d = refl
 ended_missing (Some t) None b c d = refl
@@ -160,7 +162,8 @@ end_fault net first (a ∷ b ∷ c ∷ []) = end_missing (number_of first) (numb
 end_fault net first (a ∷ b ∷ c ∷ z ∷ rest) = refl
 
 count_missing : (a : Option ℕ) (b : Option ℕ) (c : Option ℕ) (d : Option ℕ) (e : Option ℕ) (f : Option ℕ)
-    → fault_of (given a Name (λ a. given b Number (λ b. given c Number (λ c. given d Number (λ d. given e Number (λ e. given f Number (λ f. Ok (PlainEvent.count a (record { err = b; smd = c; ok = d; rx = e; tx = f })))))))))
+    → fault_of (given a Name (λ a. given b Number (λ b. given c Number (λ c. given d Number (λ d. given e Number
+    (λ e. given f Number (λ f. Ok (PlainEvent.count a (record { err = b; smd = c; ok = d; rx = e; tx = f })))))))))
     ≡ first_of (missing a Name ∷ missing b Number ∷ missing c Number ∷ missing d Number ∷ missing e Number ∷ missing f Number ∷ [])
 count_missing None b c d e f = refl
 count_missing (Some a) None c d e f = refl
@@ -210,7 +213,8 @@ both_ways false x y p q one other = other
 words_fault : (net : Network) (words : List (List ℕ)) → fault_of (said_in net words) ≡ fault_of_words net words
 words_fault net [] = refl
 words_fault net (first ∷ words) =
-    both_ways (bytes_eq first (codes "count")) (count_said net words) (said_after net first words) (fault_in net count_parts words) (fault_after net first words) (count_fault net words) (after_fault net first words)
+    both_ways (bytes_eq first (codes "count")) (count_said net words) (said_after net first words) (fault_in net count_parts words) (fault_after net first words) (count_fault net words)
+    (after_fault net first words)
 
 line_fault : (net : Network) (line : List ℕ) → fault_of (event_of net line) ≡ first_fault net line
 line_fault net line = both_ways (has_single_spaces line) (said_in net (words_of line)) (Err Word) (fault_of_words net (words_of line)) (Some Word) (words_fault net (words_of line)) refl

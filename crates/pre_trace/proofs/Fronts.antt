@@ -25,10 +25,12 @@ low_is into word room low =
     let whole : length (take GREATEST_FRAME into) ≡ GREATEST_FRAME = length-take-le GREATEST_FRAME into room in
     rw (low, whole) refl
 
-pub no_pairs : (into word : List ℕ) → GREATEST_FRAME ≤ length into → list_all is_lower_case_digit word ≡ true → None ≡ option_map length (pairs_within (length (take GREATEST_FRAME into)) word) → None ≡ lower_case_pairs GREATEST_FRAME word
+pub no_pairs : (into word : List ℕ) → GREATEST_FRAME ≤ length into → list_all is_lower_case_digit word ≡ true
+    → None ≡ option_map length (pairs_within (length (take GREATEST_FRAME into)) word) → None ≡ lower_case_pairs GREATEST_FRAME word
 no_pairs into word room low is = none_mapped (pairs_within (length (take GREATEST_FRAME into)) word) is ∙ low_is into word room low
 
-pub some_pairs : (n : ℕ) (into new word : List ℕ) → GREATEST_FRAME ≤ length into → list_all is_lower_case_digit word ≡ true → Some n ≡ option_map length (pairs_within (length (take GREATEST_FRAME into)) word)
+pub some_pairs : (n : ℕ) (into new word : List ℕ) → GREATEST_FRAME ≤ length into → list_all is_lower_case_digit word ≡ true
+    → Some n ≡ option_map length (pairs_within (length (take GREATEST_FRAME into)) word)
     → new ≡ option_map_or (λ octets. octets ++ drop (length octets) (take GREATEST_FRAME into)) (pairs_within (length (take GREATEST_FRAME into)) word) (take GREATEST_FRAME into)
     → Some (take n new) ≡ lower_case_pairs GREATEST_FRAME word
 some_pairs n into new word room low is written = (front_is n (take GREATEST_FRAME into) new (pairs_within (length (take GREATEST_FRAME into)) word) is written).0 ∙ low_is into word room low

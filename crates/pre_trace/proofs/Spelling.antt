@@ -1,6 +1,7 @@
--- What is written for a value is a word, which is read as that value.
-use Rattle.std.proofs.Common.{ℕ, ◌≡◌, ◌≢◌, ◌==◌, ◌&&◌, not, ◌+◌, ◌-◌, ◌*◌, ◌/◌, ◌%◌, ◌<◌, ◌≤◌, ◌^◌, nat_lt, nat_le, Bool, true, false, List, [], ◌∷◌, ◌++◌, length, refl, ◌∙◌, ap, arith, subst, Some, None, codes, if◌then◌else◌}
-use Rattle.std.specs.Prelude.{slice_get, slice_index_or, IsTrue}
+-- The word that is written for a value isn't empty, and is read as that value.
+use Rattle.std.proofs.Common.{ℕ, ◌≡◌, ◌≢◌, ◌==◌, ◌&&◌, not, ◌+◌, ◌-◌, ◌*◌, ◌/◌, ◌%◌, ◌<◌, ◌≤◌, ◌^◌, nat_lt, nat_le, Bool, true, false, List, [], ◌∷◌, ◌++◌, length, refl, ◌∙◌, ap, arith, subst}
+use Rattle.std.proofs.Common.{Some, None, codes, if◌then◌else◌}
+use Rattle.std.specs.Prelude.{IsTrue}
 use Rattle.std.proofs.lemmas.Option.{get_or_from_slice_get}
 use Rattle.std.specs.Option.{option_map, option_and_then, option_map_or}
 use Rattle.std.specs.List.{list_all}
@@ -11,8 +12,8 @@ use Rattle.std.proofs.lemmas.Bool.Decides.{nat_tests}
 use Rattle.pre_text.specs.Lines.{is_nonempty}
 use Rattle.pre_text.specs.Writing.{hex, hex_digit}
 use Rattle.pre_text.specs.Words.{is_name, number_of, pairs_within}
-use Rattle.pre_text.specs.Reading.{AreOctets, IsWord}
-use Rattle.pre_text.proofs.Decimals.{number_back, decimal_word, hex_word, hex_back}
+use Rattle.pre_text.specs.Reading.{AreOctets}
+use Rattle.pre_text.proofs.Decimals.{number_back, hex_back}
 use Rattle.pre_topo.specs.declared.network.Network.{Network}
 use Rattle.pre_topo.specs.declared.nodes.Node.{Node}
 use Rattle.pre_topo.specs.Names.{name_of_arc, name_of_node}
@@ -31,128 +32,73 @@ use Rattle.pre_history.specs.Names.{HasArc, HasNode}
 use Rattle.pre_trace.specs.Text.{setting_word, kind_word, what_word, outcome_word, yes_word}
 use Rattle.pre_history.specs.Written.{IsNumber, IsWhat, HasOctets}
 use Rattle.pre_history.proofs.Lists.{there}
-use Rattle.pre_trace.proofs.NameWords.{node_word, arc_word}
 use Rattle.pre_script.specs.Saying.{setting_of}
 use Rattle.pre_trace.specs.Values.{check_of, count_of, is_lower_case_digit, kind_of, lower_case_pairs, number_below, outcome_of, what_of, yes_of}
 use Rattle.pre_trace.specs.Reading.{FitsWhat}
-use Rattle.pre_trace.proofs.Inverse.{both}
 
--- ---- words that aren't empty
-
-pub record IsFull (w : List ℕ) : Type 0 where
-  pub word : IsWord w
-  pub some : is_nonempty w ≡ true
-
-in_word : ℕ → Bool
-in_word c = not (c == 32) && not (c == 10) && not (c == 13)
-
-other : (c d : ℕ) → not (c == d) ≡ true → c ≢ d
-other c d is = grind (arith, nat_tests)
-
-word_of : (w : List ℕ) → list_all in_word w ≡ true → IsWord w
-unfolding in_word
-word_of [] is = tt
-word_of (c ∷ cs) is =
-    let parts = both (in_word c) (list_all in_word cs) is in
-    let third = both (not (c == 32) && not (c == 10)) (not (c == 13)) parts.0 in
-    let second = both (not (c == 32)) (not (c == 10)) third.0 in
-    (other c 32 second.0, other c 10 second.1, other c 13 third.1, word_of cs parts.1)
-
--- a word of the formats
-pub text_full : (w : List ℕ) → (is_nonempty w && list_all (λ c. not (c == 32) && not (c == 10) && not (c == 13)) w) ≡ true → IsFull w
-unfolding in_word
-text_full w is = let parts = both (is_nonempty w) (list_all in_word w) is in record { word = word_of w parts.1; some = parts.0 }
+-- ---- none is empty
 
 some_number : (w : List ℕ) (n : ℕ) → number_of w ≡ Some n → is_nonempty w ≡ true
 some_number [] n is = absurd (cc is)
 some_number (c ∷ cs) n is = refl
 
-pub number_full : (n : ℕ) → IsNumber n → IsFull (decimal n)
-number_full n lt = record { word = decimal_word n lt; some = some_number (decimal n) n (number_back n lt) }
+pub number_nonempty : (n : ℕ) → IsNumber n → is_nonempty (decimal n) ≡ true
+number_nonempty n lt = some_number (decimal n) n (number_back n lt)
 
-hex_some : (octets : List ℕ) → 0 < length octets → is_nonempty (hex octets) ≡ true
-hex_some [] lt = absurd (omega (arith, lt))
-hex_some (b ∷ bs) lt = refl
+pub hex_nonempty : (octets : List ℕ) → HasOctets octets → is_nonempty (hex octets) ≡ true
+hex_nonempty [] are = absurd (omega (arith, are.1))
+hex_nonempty (b ∷ bs) are = refl
 
-pub hex_full : (octets : List ℕ) → HasOctets octets → IsFull (hex octets)
-hex_full octets (are, some) = record { word = hex_word octets are; some = hex_some octets some }
+joined_nonempty : (a b : List ℕ) → is_nonempty (a ++ 62 ∷ b) ≡ true
+joined_nonempty [] b = refl
+joined_nonempty (c ∷ cs) b = refl
 
-joined_some : (a b : List ℕ) → is_nonempty (a ++ 62 ∷ b) ≡ true
-joined_some [] b = refl
-joined_some (c ∷ cs) b = refl
-
-pub arc_full : (net : Network) (i : ℕ) → HasArc net i → IsFull (arc_name net i)
-arc_full net i lt =
+pub arc_nonempty : (net : Network) (i : ℕ) → HasArc net i → is_nonempty (arc_name net i) ≡ true
+arc_nonempty net i lt =
     let a = there net.arcs i lt in
     let spelled : arc_name net i ≡ name_of_arc net.nodes a.0 = ap (λ o. option_map_or (name_of_arc net.nodes) o []) a.1 in
-    record { word = arc_word net i lt; some = ap is_nonempty spelled ∙ joined_some (name_of_node net.nodes a.0.from.0) (name_of_node net.nodes a.0.to.0) }
+    ap is_nonempty spelled ∙ joined_nonempty (name_of_node net.nodes a.0.from.0) (name_of_node net.nodes a.0.to.0)
 
-name_some : (w : List ℕ) → IsTrue (is_name w) → is_nonempty w ≡ true
-name_some [] is = absurd (cc is)
-name_some (c ∷ cs) is = refl
+name_nonempty : (w : List ℕ) → IsTrue (is_name w) → is_nonempty w ≡ true
+name_nonempty [] is = absurd (cc is)
+name_nonempty (c ∷ cs) is = refl
 
-read_any : {X : Type 0} (xs : List X) (i : ℕ) (x d : X) → slice_get xs i ≡ Some x → slice_index_or xs i d ≡ x
-read_any xs i x d at = get_or_from_slice_get xs i x d at
-
-pub node_full : (net : Network) (i : ℕ) → HasNode net i → IsFull (node_name net i)
-node_full net i lt =
+pub node_nonempty : (net : Network) (i : ℕ) → HasNode net i → is_nonempty (node_name net i) ≡ true
+node_nonempty net i lt =
     let n = there net.nodes i lt in
-    let is : IsNode n.0 = subst IsNode (read_any net.nodes i n.0 n.0 n.1) (net.rules.each_node i n.0 lt) in
+    let is : IsNode n.0 = subst IsNode (get_or_from_slice_get net.nodes i n.0 n.0 n.1) (net.rules.each_node i n.0 lt) in
     let spelled : node_name net i ≡ n.0.name = ap (λ o. option_map_or (λ (x : Node). x.name) o []) n.1 in
-    record { word = node_word net i lt; some = ap is_nonempty spelled ∙ name_some n.0.name is.name }
+    ap is_nonempty spelled ∙ name_nonempty n.0.name is.name
 
-pub setting_full : (x : Setting) → IsFull (setting_word x)
-setting_full setting.On = text_full (codes "on") refl
-setting_full setting.Off = text_full (codes "off") refl
-setting_full setting.Gone = text_full (codes "gone") refl
+pub setting_nonempty : (x : Setting) → is_nonempty (setting_word x) ≡ true
+setting_nonempty setting.On = refl
+setting_nonempty setting.Off = refl
+setting_nonempty setting.Gone = refl
 
-pub yes_full : (x : Bool) → IsFull (yes_word x)
-yes_full true = text_full (codes "yes") refl
-yes_full false = text_full (codes "no") refl
+pub yes_nonempty : (x : Bool) → is_nonempty (yes_word x) ≡ true
+yes_nonempty true = refl
+yes_nonempty false = refl
 
-pub outcome_full : (x : Outcome) → IsFull (outcome_word x)
-outcome_full outcome.Lost = text_full (codes "lost") refl
-outcome_full outcome.Frame = text_full (codes "frame") refl
-outcome_full outcome.Lldp = text_full (codes "lldp") refl
-outcome_full outcome.Part = text_full (codes "part") refl
-outcome_full outcome.Verify = text_full (codes "verify") refl
-outcome_full outcome.Respond = text_full (codes "respond") refl
-outcome_full outcome.Nothing = text_full (codes "nothing") refl
+pub outcome_nonempty : (x : Outcome) → is_nonempty (outcome_word x) ≡ true
+outcome_nonempty outcome.Lost = refl
+outcome_nonempty outcome.Frame = refl
+outcome_nonempty outcome.Lldp = refl
+outcome_nonempty outcome.Part = refl
+outcome_nonempty outcome.Verify = refl
+outcome_nonempty outcome.Respond = refl
+outcome_nonempty outcome.Nothing = refl
 
-above : (m n : ℕ) → m < n → n ≢ m
-above m n lt = λ e. absurd (omega (arith, lt, e))
-
-kind_is_word : (x : Kind) → IsWord (kind_word x)
-kind_is_word kind.Express = (text_full (codes "E") refl).word
-kind_is_word kind.Verify = (text_full (codes "V") refl).word
-kind_is_word kind.Respond = (text_full (codes "R") refl).word
-kind_is_word (kind.Start c) = (above 32 83 (omega arith), above 10 83 (omega arith), above 13 83 (omega arith), (above 32 (48 + c) (omega arith), above 10 (48 + c) (omega arith), above 13 (48 + c) (omega arith), tt))
-kind_is_word (kind.Continue c n) = (
-  above 32 67 (omega arith),
-  above 10 67 (omega arith),
-  above 13 67 (omega arith),
-  (
-    above 32 (48 + c) (omega arith),
-    above 10 (48 + c) (omega arith),
-    above 13 (48 + c) (omega arith),
-    (above 32 46 (omega arith), above 10 46 (omega arith), above 13 46 (omega arith), (above 32 (48 + n) (omega arith), above 10 (48 + n) (omega arith), above 13 (48 + n) (omega arith), tt)),
-  ),
-)
-
-kind_nonempty : (x : Kind) → is_nonempty (kind_word x) ≡ true
+pub kind_nonempty : (x : Kind) → is_nonempty (kind_word x) ≡ true
 kind_nonempty kind.Express = refl
 kind_nonempty kind.Verify = refl
 kind_nonempty kind.Respond = refl
 kind_nonempty (kind.Start c) = refl
 kind_nonempty (kind.Continue c n) = refl
 
-pub kind_full : (x : Kind) → IsFull (kind_word x)
-kind_full x = record { word = kind_is_word x; some = kind_nonempty x }
-
-pub what_full : (x : What) → IsWhat x → IsFull (what_word x)
-what_full (what.Frame f) lt = number_full f.0 lt
-what_full what.Lldp u = text_full (codes "lldp") refl
-what_full what.Nothing u = text_full (codes "-") refl
+pub what_nonempty : (x : What) → IsWhat x → is_nonempty (what_word x) ≡ true
+what_nonempty (what.Frame f) lt = number_nonempty f.0 lt
+what_nonempty what.Lldp u = refl
+what_nonempty what.Nothing u = refl
 
 -- ---- each is read back
 

@@ -40,7 +40,8 @@ module _ (script : Script) (tallies : List Tally) (slots : List Closing) (kept :
       let more = lines_are streams bs once (λ i d lt. known (suc i) d (omega (arith, lt))) in
       λ i. here i ++ more i
 
-  pub text_is : (net : Network) (streams : Streams) (bounds : List (StreamId × ℕ)) (number : ℕ) → ComeOnce script h → length (closings h) ≤ most_closings → All (λ bound. bound.0.0 < length tallies) bounds
+  pub text_is : (net : Network) (streams : Streams) (bounds : List (StreamId × ℕ)) (number : ℕ) → ComeOnce script h → length (closings h) ≤ most_closings
+      → All (λ bound. bound.0.0 < length tallies) bounds
       → text_with net streams (figures_from script tallies) (map plain_closing (take kept slots)) bounds number ≡ summary_text net streams script h bounds number
   text_is net streams bounds number once few known =
       let lines = lines_are streams bounds once known in

@@ -1,10 +1,12 @@
 -- One more event in the figures of a history.
-use Rattle.std.proofs.Common.{ℕ, suc, ◌≡◌, ◌≢◌, ◌==◌, ◌||◌, ◌+◌, ◌-◌, ◌<◌, ◌≤◌, ◌^◌, nat_lt, Bool, true, false, List, [], ◌∷◌, ◌++◌, length, map, filter, filter_map, fold, take, min, max, replicate, refl, sym, ◌∙◌, ap, arith, subst, None, if◌then◌else◌, length-append, All, AllPairs}
+use Rattle.std.proofs.Common.{ℕ, suc, ◌≡◌, ◌≢◌, ◌==◌, ◌||◌, ◌+◌, ◌-◌, ◌<◌, ◌≤◌, ◌^◌, nat_lt, Bool, true, false, List, [], ◌∷◌, ◌++◌, length, map, filter, filter_map, fold, take, min, max}
+use Rattle.std.proofs.Common.{replicate, refl, sym, ◌∙◌, ap, arith, subst, None, if◌then◌else◌, length-append, All, AllPairs}
 use Rattle.std.specs.Prelude.{slice_set, slice_index_or, ◌^◌}
 use Rattle.std.proofs.Math.Seq.{get_or-append_seam, take-suc-set}
 use Rattle.std.proofs.lemmas.Bool.Decides.{nat_tests}
 use Rattle.std.proofs.lemmas.List.Elements.{filter-append, filter_map-append}
-use Rattle.std.proofs.lemmas.List.{get_or_append_left, get_or-set_other, get_or-set_same, length-map, length-set, length-take, length-take-le, map-append, replicate-append-replicate, take-append-le, take_all}
+use Rattle.std.proofs.lemmas.List.{get_or_append_left, get_or-set_other, get_or-set_same, length-map, length-set, length-take, length-take-le, map-append, replicate-append-replicate}
+use Rattle.std.proofs.lemmas.List.{take-append-le, take_all}
 use Rattle.std.proofs.lemmas.Option.{slice_get-get_or}
 use Rattle.std.specs.List.{IsDistinct, list_any, AllByRecursion as Every}
 use Rattle.std.proofs.lemmas.List.Sums.{count_by-le-length, fold-append, length-filter}
@@ -86,7 +88,8 @@ closing_kept script tallies slots new kept kept' h c is holds = go (nat_lt kept 
     front : length (take most_closings (filter is_closing h)) ≡ kept
     front = ap length (sym holds.closings) ∙ (length-map (take kept slots) plain_closing ∙ length-take-le kept slots (omega (arith, holds.room, holds.few)))
 
-    go : (b : Bool) → nat_lt kept (length slots) ≡ b → ◌≡◌ {A = List Closing × ℕ} (new, kept') (if b then (slice_set slots kept c, kept + 1) else (slots, kept)) → Sums script tallies new kept' (h ++ plain_closing c ∷ [])
+    go : (b : Bool) → nat_lt kept (length slots) ≡ b → ◌≡◌ {A = List Closing × ℕ} (new, kept') (if b then (slice_set slots kept c, kept + 1) else (slots, kept))
+        → Sums script tallies new kept' (h ++ plain_closing c ∷ [])
     go true test same =
         let lists : new ≡ slice_set slots kept c = ap (λ p. p.0) same in
         let next : kept + 1 ≡ suc kept = omega arith in
@@ -94,7 +97,8 @@ closing_kept script tallies slots new kept kept' h c is holds = go (nat_lt kept 
         let lt : kept < length slots = grind (arith, nat_tests) in
         let few : length (filter is_closing h) < most_closings = omega (arith, length-take most_closings (filter is_closing h), front, lt, holds.room) in
         let whole : take most_closings (filter is_closing h) ≡ filter is_closing h = take_all most_closings (filter is_closing h) (omega (arith, few)) in
-        let more' : take most_closings (filter is_closing h ++ plain_closing c ∷ []) ≡ filter is_closing h ++ plain_closing c ∷ [] = take_all most_closings (filter is_closing h ++ plain_closing c ∷ []) (omega (arith, few, length-append (filter is_closing h) (plain_closing c ∷ []))) in
+        let more' : take most_closings (filter is_closing h ++ plain_closing c ∷ []) ≡ filter is_closing h ++ plain_closing c ∷ []
+        = take_all most_closings (filter is_closing h ++ plain_closing c ∷ []) (omega (arith, few, length-append (filter is_closing h) (plain_closing c ∷ []))) in
         let written : take kept' new ≡ take kept slots ++ c ∷ [] = (λ i. take (counts i) (lists i)) ∙ take-suc-set slots kept c lt in
         record {
           tallied = tallies_keep script tallies h (plain_closing c) (no_delivery c) holds.tallied;
@@ -122,7 +126,8 @@ closing_kept script tallies slots new kept kept' h c is holds = go (nat_lt kept 
 same_add : (script : Script) (ds : List Delivery) (d : Delivery) (i : ℕ) → of_stream script i d ≡ false → the_tally script (ds ++ d ∷ []) i ≡ the_tally script ds i
 same_add script ds d i other =
     let one : filter (of_stream script i) (d ∷ []) ≡ [] = rw other refl in
-    let kept : filter (of_stream script i) (ds ++ d ∷ []) ≡ filter (of_stream script i) ds = filter-append (of_stream script i) ds (d ∷ []) ∙ (ap (λ l. filter (of_stream script i) ds ++ l) one ∙ no_append (filter (of_stream script i) ds)) in
+    let kept : filter (of_stream script i) (ds ++ d ∷ []) ≡ filter (of_stream script i) ds = filter-append (of_stream script i) ds (d ∷ [])
+    ∙ (ap (λ l. filter (of_stream script i) ds ++ l) one ∙ no_append (filter (of_stream script i) ds)) in
     ap (λ (l : List Delivery). record { delivered = length l; greatest = fold max 0 (map (delay script) l) }) kept
 
 more_add : (script : Script) (ds : List Delivery) (d : Delivery) (i : ℕ) → of_stream script i d ≡ true → length (filter (of_stream script i) ds) + 1 ≤ 2 ^ 64 - 1
@@ -130,10 +135,13 @@ more_add : (script : Script) (ds : List Delivery) (d : Delivery) (i : ℕ) → o
 more_add script ds d i here few =
     let F = filter (of_stream script i) ds in
     let one : filter (of_stream script i) (d ∷ []) ≡ d ∷ [] = rw here refl in
-    let kept : filter (of_stream script i) (ds ++ d ∷ []) ≡ filter (of_stream script i) ds ++ d ∷ [] = filter-append (of_stream script i) ds (d ∷ []) ∙ ap (λ l. filter (of_stream script i) ds ++ l) one in
-    let count : length (filter (of_stream script i) (ds ++ d ∷ [])) ≡ min (length (filter (of_stream script i) ds) + 1) (2 ^ 64 - 1) = omega (arith, ap length kept, length-append (filter (of_stream script i) ds) (d ∷ []), few) in
+    let kept : filter (of_stream script i) (ds ++ d ∷ []) ≡ filter (of_stream script i) ds ++ d ∷ []
+    = filter-append (of_stream script i) ds (d ∷ []) ∙ ap (λ l. filter (of_stream script i) ds ++ l) one in
+    let count : length (filter (of_stream script i) (ds ++ d ∷ [])) ≡ min (length (filter (of_stream script i) ds) + 1) (2 ^ 64 - 1)
+    = omega (arith, ap length kept, length-append (filter (of_stream script i) ds) (d ∷ []), few) in
     let great : fold max 0 (map (delay script) (filter (of_stream script i) (ds ++ d ∷ []))) ≡ max (fold max 0 (map (delay script) (filter (of_stream script i) ds))) (delay script d)
-    = ap (λ l. fold max 0 (map (delay script) l)) kept ∙ (ap (fold max 0) (map-append (delay script) (filter (of_stream script i) ds) (d ∷ [])) ∙ fold-append max 0 (map (delay script) (filter (of_stream script i) ds)) (delay script d ∷ [])) in
+    = ap (λ l. fold max 0 (map (delay script) l)) kept ∙ (ap (fold max 0) (map-append (delay script) (filter (of_stream script i) ds) (d ∷ []))
+    ∙ fold-append max 0 (map (delay script) (filter (of_stream script i) ds)) (delay script d ∷ [])) in
     (λ k. record { delivered = count k; greatest = great k })
 
 -- ---- deliveries of different sends are few: no two name one of the script's
@@ -171,7 +179,8 @@ all_front : {X : Type 0} (P : X → Type 0) (xs ys : List X) → All P (xs ++ ys
 all_front P xs ys all = λ i d lt. subst P (get_or_append_left xs ys d i lt) (all i d (omega (arith, lt, length-append xs ys)))
 
 pairs_front : {X : Type 0} (R : X → X → Type 0) (xs ys : List X) → AllPairs R (xs ++ ys) → AllPairs R xs
-pairs_front R xs ys all = λ i j d lt lt'. subst (λ x. R x (slice_index_or xs j d)) (get_or_append_left xs ys d i (omega (arith, lt, lt'))) (subst (λ y. R (slice_index_or (xs ++ ys) i d) y) (get_or_append_left xs ys d j lt') (all i j d lt (omega (arith, lt', length-append xs ys))))
+pairs_front R xs ys all = λ i j d lt lt'. subst (λ x. R x (slice_index_or xs j d)) (get_or_append_left xs ys d i (omega (arith, lt, lt')))
+    (subst (λ y. R (slice_index_or (xs ++ ys) i d) y) (get_or_append_left xs ys d j lt') (all i j d lt (omega (arith, lt', length-append xs ys))))
 
 -- a delivery is counted
 pub delivery_kept : (script : Script) (tallies new : List Tally) (slots : List Closing) (kept : ℕ) (h : History) (d : Delivery) → new ≡ noted script tallies d.tick d.frame
@@ -182,11 +191,15 @@ delivery_kept script tallies new slots kept h d is holds = record {
       (subst (λ (ds : List Delivery). All (λ d. d.frame < length script.sends) ds) same once.known (length (Deliveries h)) d (omega (arith, length-append (Deliveries h) (d ∷ [])))) in
       let before : ComeOnce script h = record {
         known = all_front (λ d. d.frame < length script.sends) (Deliveries h) (d ∷ []) (subst (λ (ds : List Delivery). All (λ d. d.frame < length script.sends) ds) same once.known);
-        after = all_front (λ d. (send_of script d.frame).send.tick.0 ≤ d.tick) (Deliveries h) (d ∷ []) (subst (λ (ds : List Delivery). All (λ d. (send_of script d.frame).send.tick.0 ≤ d.tick) ds) same once.after);
+        after = all_front (λ d. (send_of script d.frame).send.tick.0 ≤ d.tick) (Deliveries h) (d ∷ [])
+            (subst (λ (ds : List Delivery). All (λ d. (send_of script d.frame).send.tick.0 ≤ d.tick) ds) same once.after);
         once = pairs_front (λ d e. d.frame ≢ e.frame) (Deliveries h) (d ∷ []) (subst (λ (ds : List Delivery). AllPairs (λ d e. d.frame ≢ e.frame) ds) same once.once);
       } in
       let at = slice_get-get_or script.sends d.frame no_send known in
-      go before (λ i. few_deliveries script (Deliveries h) d i holds.sends (subst (λ (ds : List Delivery). All (λ d. d.frame < length script.sends) ds) same once.known) (subst (λ (ds : List Delivery). AllPairs (λ d e. d.frame ≢ e.frame) ds) same once.once)) (nat_lt (send_of script d.frame).send.stream.0 (length tallies)) refl (is ∙ ap (noted_send tallies d.tick) at);
+      let all_known = subst (λ (ds : List Delivery). All (λ d. d.frame < length script.sends) ds) same once.known in
+      let all_once = subst (λ (ds : List Delivery). AllPairs (λ d e. d.frame ≢ e.frame) ds) same once.once in
+      go before (λ i. few_deliveries script (Deliveries h) d i holds.sends all_known all_once) (nat_lt (send_of script d.frame).send.stream.0 (length tallies)) refl
+      (is ∙ ap (noted_send tallies d.tick) at);
   closings = holds.closings ∙ ap (take most_closings) (sym (same_closings h (PlainEvent.deliver d) refl));
   room = holds.room;
   few = holds.few;

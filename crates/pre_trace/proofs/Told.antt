@@ -203,7 +203,8 @@ module _ (net : Network) (first : List ℕ) (words : List (List ℕ)) (e : Plain
       })
 
   entry_as : (lost : Bool) (x : Entry) → IsWritten net (PlainEvent.enter x) → Fits (PlainEvent.enter x)
-      → line_of (decimal x.tick) (entry_word lost ∷ arc_name net x.arc ∷ decimal x.prio ∷ decimal x.frame ∷ []) ≡ line_of first (entry_word lost ∷ words) → Told net first (entry_word lost ∷ words) (entered lost x)
+      → line_of (decimal x.tick) (entry_word lost ∷ arc_name net x.arc ∷ decimal x.prio ∷ decimal x.frame ∷ []) ≡ line_of first (entry_word lost ∷ words)
+      → Told net first (entry_word lost ∷ words) (entered lost x)
   entry_as true x written fits spells = record { written = written; event = tt; fits = fits; spells = spells }
   entry_as false x written fits spells = record { written = written; event = tt; fits = fits; spells = spells }
 

@@ -6,4 +6,5 @@ use Rattle.pre_trace.proofs.summary_lines.put_closings.Goals as goal
 
 pub returns-in_err-put_closing-clause-octets : goal.returns-in_err-put_closing-clause-octets
 returns-in_err-put_closing-clause-octets g c =
-    line_breaks (λ k. line c.args.net.now (plain_closing k)) c.args.closings.now c.loop-closing.closing-index (closing.Count (record { 0 = 0 }) 0 0 0 0 0) _ _ _ c.from_residual.result c.loop-closing-test.true c.from_residual.ensures.0 c.loop-closing.invariant.taken c.in_err-put_closing.ensures.octets
+    line_breaks (λ k. line c.args.net.now (plain_closing k)) c.args.closings.now c.loop-closing.closing-index (closing.Count (record { 0 = 0 }) 0 0 0 0 0)
+    _ _ _ c.from_residual.result c.loop-closing-test.true c.from_residual.ensures.0 c.loop-closing.invariant.taken c.in_err-put_closing.ensures.octets

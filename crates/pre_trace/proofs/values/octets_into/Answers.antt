@@ -13,7 +13,8 @@ returns-in_err-count c =
     ap (option_map (λ o. o.now)) c.from_residual.ensures ∙ no_pairs c.args.into.now c.args.word.now c.requires low c.in_err-count.ensures.count
 
 pub slice_bounds-result-end : goal.slice_bounds-result-end
-slice_bounds-result-end c = (front_is c.in_ok-count.count (take GREATEST_FRAME c.args.into.now) c.hex_pairs.new.into (pairs_within (length (take GREATEST_FRAME c.args.into.now)) c.args.word.now) c.in_ok-count.ensures.count c.hex_pairs.ensures.written).1
+slice_bounds-result-end c = (front_is c.in_ok-count.count (take GREATEST_FRAME c.args.into.now) c.hex_pairs.new.into
+    (pairs_within (length (take GREATEST_FRAME c.args.into.now)) c.args.word.now) c.in_ok-count.ensures.count c.hex_pairs.ensures.written).1
 
 pub returns : goal.returns
 returns c =
