@@ -5,15 +5,15 @@ use Rattle.std.specs.Fmt.{decimal}
 use Rattle.std.proofs.lemmas.List.{append_cancel_right}
 use Rattle.pre_text.specs.Lines.{cut_at, is_nonempty, lines_of}
 use Rattle.pre_text.specs.Reading.{AreWords, IsWord, joined}
-use Rattle.pre_text.specs.Writing.{hex, line_of}
+use Rattle.pre_text.specs.Writing.{line_of}
 use Rattle.pre_text.proofs.Decimals.{decimal_word, hex_back, hex_word, number_back}
 use Rattle.pre_text.proofs.OneReading.{line_cut}
 use Rattle.pre_text.proofs.ReadBack.{line_back, words_back}
 use Rattle.pre_topo.specs.declared.network.Network.{Network}
-use Rattle.pre_topo.specs.Named.{node_name, arc_name}
+use Rattle.pre_topo.specs.Named.{arc_name}
 use Rattle.pre_history.specs.History.{Entry, PlainEvent}
 use Rattle.pre_history.specs.Plain.{IsEvent}
-use Rattle.pre_trace.specs.Text.{setting_word, kind_word, what_word, outcome_word, yes_word, line}
+use Rattle.pre_trace.specs.Text.{line}
 use Rattle.pre_history.specs.Written.{IsNumber, IsWritten}
 use Rattle.pre_trace.specs.declared.words.EventFault.{EventFault}
 use Rattle.pre_trace.specs.declared.words.EventFault.TheVariants.{Word, Number, Name, Hex}

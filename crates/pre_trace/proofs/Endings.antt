@@ -1,8 +1,8 @@
 -- A legal history has few events of the end.
-use Rattle.std.proofs.Common.{ℕ, zero, suc, ◌≡◌, ◌+◌, ◌==◌, ◌&&◌, ◌≤◌, Bool, true, false, List, [], ◌∷◌, ◌++◌, length, filter, refl, sym, ◌∙◌, ap, arith, if◌then◌else◌, length-append, append_assoc}
+use Rattle.std.proofs.Common.{ℕ, zero, suc, ◌≡◌, ◌==◌, ◌&&◌, ◌≤◌, Bool, true, false, List, [], ◌∷◌, ◌++◌, length, refl, ◌∙◌, ap, arith, if◌then◌else◌, length-append, append_assoc}
 use Rattle.std.proofs.lemmas.List.Elements.{filter-append}
 use Rattle.std.proofs.lemmas.List.Sums.{count_by-le-length, length-filter}
-use Rattle.pre_history.specs.History.{Counts, PlainEvent, History}
+use Rattle.pre_history.specs.History.{PlainEvent, History}
 use Rattle.pre_history.specs.Scenario.{Scenario}
 use Rattle.pre_history.specs.Legal.{CountLines, Legal, LegalUpTo, closing, count_line, last_moment}
 use Rattle.pre_history.specs.Placed.{AllBefore}

@@ -1,5 +1,5 @@
 -- The first fault of a line, by what its words are to be.
-use Rattle.std.proofs.Common.{ℕ, ◌≡◌, ◌&&◌, ◌^◌, Bool, true, false, List, [], ◌∷◌, refl, sym, ◌∙◌, ap, Option, Some, None, Result, Ok, Err, codes, if◌then◌else◌}
+use Rattle.std.proofs.Common.{ℕ, ◌≡◌, ◌&&◌, ◌^◌, Bool, true, false, List, [], ◌∷◌, refl, ◌∙◌, ap, Option, Some, None, Result, Ok, Err, codes, if◌then◌else◌}
 use Rattle.std.specs.Prelude.{is_some}
 use Rattle.std.specs.Str.{bytes_eq}
 use Rattle.pre_base.specs.declared.limits.TheConstants.{GREATEST_FRAME}

@@ -1,7 +1,7 @@
 -- What a summary keeps is written as what it stands for.
-use Rattle.std.proofs.Common.{◌≡◌, ℕ, ◌+◌, ◌<◌, ◌≤◌, List, [], ◌∷◌, ◌++◌, length, map, take, Option, suc, refl, sym, ◌∙◌, ap, arith, All, codes}
+use Rattle.std.proofs.Common.{◌≡◌, ℕ, ◌<◌, ◌≤◌, List, [], ◌∷◌, ◌++◌, length, map, take, suc, refl, sym, ◌∙◌, ap, arith, All, codes}
 use Rattle.std.specs.Fmt.{decimal}
-use Rattle.std.specs.Prelude.{slice_get, slice_index_or}
+use Rattle.std.specs.Prelude.{slice_get}
 use Rattle.std.specs.Option.{option_map}
 use Rattle.std.specs.List.{flat_map}
 use Rattle.std.proofs.lemmas.List.{take_all}
@@ -11,7 +11,7 @@ use Rattle.pre_text.specs.Writing.{line_of}
 use Rattle.pre_topo.specs.declared.network.Network.{Network}
 use Rattle.pre_streams.specs.declared.rows.Streams.{Streams}
 use Rattle.pre_script.specs.declared.scripts.Script.{Script}
-use Rattle.pre_history.specs.History.{PlainEvent, History}
+use Rattle.pre_history.specs.History.{History}
 use Rattle.pre_trace.specs.declared.summaries.Figures.{Figures}
 use Rattle.pre_trace.specs.declared.tallies.Closing.{Closing}
 use Rattle.pre_trace.specs.declared.tallies.Tally.{Tally}

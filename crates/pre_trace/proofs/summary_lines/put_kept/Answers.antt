@@ -33,7 +33,8 @@ returns-in_err-put_streams-clause-octets g c =
     let t0 : WhereTold before (g.S.Sink.tells c.put_line.new.sink) (TakesWhole number) = search rules in
     let s0 = goes_on before before (g.S.Sink.tells c.put_line.new.sink) whole number (lines ++ ending) (untouched before whole) t0 in
     let f : WhereTold (g.S.Sink.tells c.put_line.new.sink) (g.S.Sink.tells c.put_streams.new.sink) (TakesFront lines) = search rules in
-    breaks before (g.S.Sink.tells c.put_line.new.sink) (g.S.Sink.tells c.put_streams.new.sink) whole lines ending c.from_residual-in_err-put_streams.result c.from_residual-in_err-put_streams.ensures.0 s0 f
+    breaks before (g.S.Sink.tells c.put_line.new.sink) (g.S.Sink.tells c.put_streams.new.sink) whole lines ending
+    c.from_residual-in_err-put_streams.result c.from_residual-in_err-put_streams.ensures.0 s0 f
 
 pub returns-clause-octets : goal.returns-clause-octets
 returns-clause-octets g c =
