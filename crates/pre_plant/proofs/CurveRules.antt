@@ -40,13 +40,12 @@ module _ (curve : Curve) (octets : ℕ) (burst : curve.burst ≡ octets) (rate :
       let size : s.size + 20 ≡ octets = sizes zero s (omega arith) in
       let filled : 1_000_000 * octets ≤ tokens + 200 * (s.tick.0 - latest) = full zero s (omega arith) in
       let back = gives (s.tick.0 - latest) in
-      let level : refilled curve tokens (s.tick.0 - latest) ≡ 1_000_000 * octets = omega (arith, filled, back, burst) in
-      (
+      let level : refilled curve tokens (s.tick.0 - latest) ≡ 1_000_000 * octets = omega (arith, filled, back, burst) in (
         omega (arith, level, size),
         conforms (refilled curve tokens (s.tick.0 - latest) - 1_000_000 * (s.size + 20)) s.tick.0 sends
-        (λ k d within. sizes (suc k) d (omega arith))
-        (λ i j d before within. gaps (suc i) (suc j) d (omega arith) (omega arith))
-        (λ k d within. let later = gaps zero (suc k) d (omega arith) (omega arith) in omega (arith, later, level, size)),
+            (λ k d within. sizes (suc k) d (omega arith))
+            (λ i j d before within. gaps (suc i) (suc j) d (omega arith) (omega arith))
+            (λ k d within. let later = gaps zero (suc k) d (omega arith) (omega arith) in omega (arith, later, level, size)),
       )
 
 -- ---- their order
@@ -68,7 +67,7 @@ module _ (sends : List Send) (order : AllPairs (λ a b. a.tick.0 ≤ b.tick.0) s
 -- ---- of one stream
 
 later_tick : (a b : Send) → ComesBefore a b → a.tick.0 ≤ b.tick.0
-later_tick a b before = elim before [ | inl p ↦ omega (arith, p) | inr p ↦ omega (arith, p.0) ]
+later_tick a b before = elim before [ inl p ↦ omega (arith, p) | inr p ↦ omega (arith, p.0) ]
 
 module _ (draws : List ℕ) (lines : List SendLine) (ordered : AreOrdered (sends_by_row draws) (map (λ s. s.send) lines)) (i : ℕ) (low : i < 60) where
   abbrev of_row : List SendLine

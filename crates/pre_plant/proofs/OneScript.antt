@@ -16,8 +16,8 @@ use Rattle.pre_plant.specs.Scripts.{AreOrdered, ComesBefore, IsPlantScript, send
 never_both : (a b : Send) → ComesBefore a b → ComesBefore b a → ⊥
 never_both a b one two =
     elim one [
-      | inl p ↦ elim two [ | inl q ↦ omega (arith, p, q) | inr q ↦ omega (arith, p, q.0) ]
-      | inr p ↦ elim two [ | inl q ↦ omega (arith, p.0, q) | inr q ↦ omega (arith, p.1, q.1) ]
+      | inl p ↦ elim two [ inl q ↦ omega (arith, p, q) | inr q ↦ omega (arith, p, q.0) ]
+      | inr p ↦ elim two [ inl q ↦ omega (arith, p.0, q) | inr q ↦ omega (arith, p.1, q.1) ]
     ]
 
 -- an element of a list with a first one is that, or is among the others
@@ -62,9 +62,9 @@ known_by_elements (x ∷ xs) [] one two there back = let (k, within, at) = there
 known_by_elements (x ∷ xs) (y ∷ ys) one two there back =
     let same : x ≡ y = same_first x y xs ys one two (there x (has_first x xs)) (back y (has_first y ys)) in
     let rest : xs ≡ ys =
-        known_by_elements xs ys (rest_in_order x xs one) (rest_in_order y ys two)
-        (λ z here. within_rest x y z xs ys same one here (there z (has_later x z xs here)))
-        (λ z here. within_rest y x z ys xs (sym same) two here (back z (has_later y z ys here))) in
+    known_by_elements xs ys (rest_in_order x xs one) (rest_in_order y ys two)
+    (λ z here. within_rest x y z xs ys same one here (there z (has_later x z xs here)))
+    (λ z here. within_rest y x z ys xs (sym same) two here (back z (has_later y z ys here))) in
     cc
 
 pub one_order : (all xs ys : List Send) → AreOrdered all xs → AreOrdered all ys → xs ≡ ys

@@ -6,7 +6,9 @@ use Rattle.pre_topo.specs.declared.nodes.Node.{Node}
 use Rattle.pre_topo.specs.Arcs.{slots_of_arc, wires_of_arc}
 use Rattle.pre_topo.specs.Memory.{slots, wires}
 use Rattle.pre_streams.specs.declared.rows.Streams.{Streams}
+use Rattle.pre_streams.specs.Fits as streams_rules
 use Rattle.pre_streams.specs.Made.{row_parts}
+use Rattle.pre_script.specs.Fits as script_rules
 use Rattle.pre_script.specs.declared.scripts.Script.{Script}
 use Rattle.pre_plant.specs.Counts.{HasCounts}
 use Rattle.pre_plant.specs.Curves.{CurvesHold}
@@ -14,7 +16,7 @@ use Rattle.pre_plant.specs.Draws.{draws_of}
 use Rattle.pre_plant.specs.Networks.{plant_nodes, plant_arcs, IsPlantNetwork}
 use Rattle.pre_plant.specs.Rows.{plant_rows}
 use Rattle.pre_plant.specs.Scripts.{IsPlantScript}
-use Rattle.pre_plant.specs.Plants.{IsPlant, AllFit}
+use Rattle.pre_plant.specs.Plants.{IsPlant}
 use Rattle.pre_plant.proofs.CurveRules.{curves_hold}
 use Rattle.pre_plant.proofs.PlantNetworks.{nodes_count, arcs_count, slots_sum, wires_sum}
 use Rattle.pre_plant.proofs.RowRules.{rows_fit, streams_counted, flows_counted}
@@ -32,11 +34,11 @@ plant_made n net streams script one two first second network rows lines = record
 }
 
 module _ (n : ℕ) (net : Network) (streams : Streams) (script : Script) (is : IsPlant n net streams script) where
-  pub plant_fits : AllFit net streams script
-  plant_fits = record {
-    streams_fit = rows_fit (draws_of n) streams.rows is.rows net streams is.network refl;
-    script_fits = script_fits (draws_of n) script is.lines net streams is.network is.rows;
-  }
+  pub streams_fit : streams_rules.Fits net streams
+  streams_fit = rows_fit (draws_of n) streams.rows is.rows net streams is.network refl
+
+  pub lines_fit : script_rules.Fits net streams script
+  lines_fit = script_fits (draws_of n) script is.lines net streams is.network is.rows
 
   pub plant_curves : CurvesHold streams.rows script.sends
   plant_curves = curves_hold (draws_of n) streams.rows script.sends is.rows is.lines.sends

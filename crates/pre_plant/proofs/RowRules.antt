@@ -169,8 +169,8 @@ module _ (draws : List ℕ) (rows : List Row) (are : map row_parts rows ≡ plan
     names = subst (AllPairs (λ q r. q.name ≢ r.name)) (sym of) names_differ;
     routes = subst (AllPairs SharesRoute) (sym of) routes_shared;
     streams_first = subst (AllPairs (λ q r. IsNone q.curve → IsNone r.curve)) (sym of)
-    (λ i j d before within none.
-    sym (is_some_map curve_parts (get_or rows j d).curve) ∙ streams_come_first i j d before within (is_some_map curve_parts (get_or rows i d).curve ∙ none));
+        (λ i j d before within none.
+        sym (is_some_map curve_parts (get_or rows j d).curve) ∙ streams_come_first i j d before within (is_some_map curve_parts (get_or rows i d).curve ∙ none));
     streams_count = omega (arith, count_by-le-length (λ (r : Row). is_some r.curve) streams.rows, ap (λ (rs : List Row). length rs) of, rows_long);
     flows_count = omega (arith, count_by-le-length (λ (r : Row). is_none r.curve) streams.rows, ap (λ (rs : List Row). length rs) of, rows_long);
   }

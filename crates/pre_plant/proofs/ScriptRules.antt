@@ -134,7 +134,7 @@ module _ (draws : List ℕ) (script : Script) (is : IsPlantScript draws script) 
       omega (arith, count_map (λ s. not (is_of_stream s)) (λ (s : SendLine). s.send) script.sends, sum_by-IsPermutation (λ s. cond (not (is_of_stream s)) 1 0) (sends_by_row draws) sent is.sends.same, flows_counted draws)
 
   tick_before : (s : Send) → IsOfRow draws s → s.tick.0 < 9_000_000
-  tick_before s of = elim of [ | inl p ↦ p.2.tick_is | inr p ↦ p.2.tick_is ]
+  tick_before s of = elim of [ inl p ↦ p.2.tick_is | inr p ↦ p.2.tick_is ]
 
   pub sends_end : All (λ s. s.send.tick.0 < script.until.0) script.sends
   sends_end k d within = omega (arith, tick_before (get_or script.sends k d).send (sent_are k d within), is.until)

@@ -71,7 +71,7 @@ turned_apart a b apart same =
     let gaps = same_gap a b (sym same) h.size in
     record {
       size = sym h.size;
-      ticks = elim h.ticks [ | inl p ↦ inr (omega (arith, p, gaps)) | inr p ↦ inl (omega (arith, p, gaps)) ];
+      ticks = elim h.ticks [ inl p ↦ inr (omega (arith, p, gaps)) | inr p ↦ inl (omega (arith, p, gaps)) ];
     }
 
 pub gap_of_stream : (s : Send) → s.stream.0 < 60 → gap s ≡ 5000 * (s.size + 20)

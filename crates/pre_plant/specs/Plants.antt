@@ -2,10 +2,8 @@
 use Rattle.std.specs.Prelude.{◌≡◌, ℕ, map}
 use Rattle.pre_topo.specs.declared.network.Network.{Network}
 use Rattle.pre_streams.specs.declared.rows.Streams.{Streams}
-use Rattle.pre_streams.specs.Fits as rows_rules
 use Rattle.pre_streams.specs.Made.{row_parts}
 use Rattle.pre_script.specs.declared.scripts.Script.{Script}
-use Rattle.pre_script.specs.Fits as lines_rules
 use Rattle.pre_plant.specs.Draws.{draws_of}
 use Rattle.pre_plant.specs.Networks.{IsPlantNetwork}
 use Rattle.pre_plant.specs.Rows.{plant_rows}
@@ -15,8 +13,3 @@ pub record IsPlant (n : ℕ) (net : Network) (streams : Streams) (script : Scrip
   pub network : IsPlantNetwork net
   pub rows : map row_parts streams.rows ≡ plant_rows (draws_of n)
   pub lines : IsPlantScript (draws_of n) script
-
--- The streams fit the network, and the script fits both.
-pub record AllFit (net : Network) (streams : Streams) (script : Script) : Type 0 where
-  pub streams_fit : rows_rules.Fits net streams
-  pub script_fits : lines_rules.Fits net streams script

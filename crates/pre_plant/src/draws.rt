@@ -8,6 +8,7 @@ pub(crate) const COUNT: usize = 360;
 
 /// The multiplier and the increment of the generator, whose states are numbers below 2^64.
 const MULTIPLIER: u64 = 6364136223846793005;
+
 const INCREMENT: u64 = 1442695040888963407;
 
 /// The lower bits of a state, which a draw leaves out.

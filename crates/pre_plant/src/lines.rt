@@ -17,14 +17,17 @@ const ARCS: u64 = 102;
 
 /// How many losses there are, and the place of their first draw.
 const LOSSES: usize = 20;
+
 const LOSS_DRAWS: usize = 240;
 
 /// How many damages there are, and the place of their first draw.
 const DAMAGES: usize = 20;
+
 const DAMAGE_DRAWS: usize = 280;
 
 /// The least ordinal and the least offset of a damage.
 const LEAST_ORDINAL: u64 = 8;
+
 const LEAST_OFFSET: u64 = 8;
 
 /// The sends as the first lines of a script.

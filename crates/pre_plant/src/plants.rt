@@ -1,5 +1,7 @@
 ghost use Rattle.std.specs.Prelude.{IfOk};
-ghost use Rattle.pre_plant.specs.Plants.{IsPlant, AllFit};
+ghost use Rattle.pre_streams.specs.Fits as streams_rules;
+ghost use Rattle.pre_script.specs.Fits as script_rules;
+ghost use Rattle.pre_plant.specs.Plants.{IsPlant};
 ghost use Rattle.pre_plant.specs.Curves.{CurvesHold};
 ghost use Rattle.pre_plant.specs.Counts.{HasCounts};
 
@@ -19,7 +21,8 @@ use std::alloc::{AllocError, Global};
 /// An error is want of memory.
 pub fn plant(alloc: Global, number: u64) -> Result<(Network, Streams, Script), AllocError>
     ensures plant { IfOk result (λ p. IsPlant number p.0 p.1 p.2) }
-    ensures fits { IfOk result (λ p. AllFit p.0 p.1 p.2) }
+    ensures streams_fit { IfOk result (λ p. streams_rules.Fits p.0 p.1) }
+    ensures script_fits { IfOk result (λ p. script_rules.Fits p.0 p.1 p.2) }
     ensures curves { IfOk result (λ p. CurvesHold p.1.rows p.2.sends) }
     ensures counts { IfOk result (λ p. HasCounts p.0 p.1 p.2) }
 {

@@ -6,23 +6,20 @@ ghost use Rattle.pre_plant.specs.Rows.{destination, stream_max, stream_row, flow
 use crate::draws::draw;
 use crate::networks::{STATIONS, numbered};
 use crate::routes::{arcs_between, route_between};
-use pre_base::{Items, Prio};
+use pre_base::{Items, LEAST_FRAME, OVERHEAD, Prio};
 use pre_curve::Curve;
 use pre_streams::{Row, Streams};
 use std::alloc::{AllocError, Global};
 
 pub(crate) const STREAMS: u16 = 60;
+
 pub(crate) const FLOWS: u16 = 30;
 
 /// The frames of every flow, in octets.
 pub(crate) const FLOW_MAX: u16 = 1522;
 
-/// A frame of a stream at least, in octets, and how many sizes there are from there on.
-const STREAM_LEAST: u16 = 64;
+/// The greatest frame of a stream has one of so many sizes, from the least frame on.
 const STREAM_SIZES: u64 = 64;
-
-/// What the wire spends on a frame beside its octets.
-pub(crate) const AROUND: u16 = 20;
 
 /// The octets that a stream may send more for each 1,000,000 ticks.
 const RATE: u64 = 200;
@@ -47,7 +44,7 @@ pub(crate) fn stream_max(draws: &[u64], stream: u16) -> u16
     ensures value { result ≡ stream_max draws.now stream }
     ensures within { result < 128 }
 {
-    STREAM_LEAST + draw(draws, 2 * usize::from(stream) + 1, STREAM_SIZES) as u16
+    LEAST_FRAME + draw(draws, 2 * usize::from(stream) + 1, STREAM_SIZES) as u16
 }
 
 fn stream_row(alloc: Global, draws: &[u64], stream: u16) -> Result<Row, AllocError>
@@ -59,7 +56,7 @@ fn stream_row(alloc: Global, draws: &[u64], stream: u16) -> Result<Row, AllocErr
     let to = destination(draws, 2 * usize::from(stream), stream);
     let max = stream_max(draws, stream);
     let curve = Curve {
-        burst: u64::from(max + AROUND),
+        burst: u64::from(max) + OVERHEAD,
         rate: RATE,
     };
     Ok(Row {

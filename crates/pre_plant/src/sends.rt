@@ -3,8 +3,8 @@ ghost use Rattle.pre_plant.specs.Lists.{joined_of};
 ghost use Rattle.pre_plant.specs.Scripts.{times, nth_send, sends_every, stream_sends, flow_sends, sends_by_row, AreOrdered};
 
 use crate::draws::draw;
-use crate::rows::{AROUND, FLOW_MAX, FLOWS, STREAMS, stream_max};
-use pre_base::{Send, StreamId, Tick};
+use crate::rows::{FLOW_MAX, FLOWS, STREAMS, stream_max};
+use pre_base::{OVERHEAD, Send, StreamId, Tick};
 use std::alloc::{AllocError, Global};
 
 /// No send is at this tick or later.
@@ -15,10 +15,12 @@ const OCTET_PERIOD: u64 = 5000;
 
 /// The first tick of a stream is below this bound, and its draw is behind those of all rows.
 const STREAM_FIRSTS: u64 = 100_000;
+
 const STREAM_DRAWS: usize = 150;
 
 /// The first tick of a flow is below its period, and its draw is behind those of the streams' first ticks.
 const FLOW_PERIOD: u64 = 24_000;
+
 const FLOW_DRAWS: usize = 210;
 
 /// What a row sends: frames of one size, one a period.
@@ -78,7 +80,7 @@ fn stream_source(draws: &[u64], stream: u16) -> Source
         stream,
         size,
         first: draw(draws, STREAM_DRAWS + usize::from(stream), STREAM_FIRSTS),
-        period: OCTET_PERIOD * u64::from(size + AROUND),
+        period: OCTET_PERIOD * (u64::from(size) + OVERHEAD),
     }
 }
 

@@ -42,7 +42,10 @@ fn rows_text(alloc: Global, rows: &Items<Row>) -> Result<String, Fail> {
 fn texts_of_plant_1(rt: HostRuntime) -> Result<(), Fail> {
     let alloc = rt.alloc();
     let (network, streams, script) = plant(alloc, 1)?;
-    assert_eq!(rt; (network.slots(), network.wires(), script.sends.len()), (49_328, 205_326, 12_227));
+    assert_eq!(rt;
+        (network.slots(), network.wires(), script.sends.len()),
+        (49_328, 205_326, 12_227)
+    );
     let mut sink = MemorySink::make(alloc, 16_384, 16_384, &[])?;
     assert!(rt; put_network(&network, &mut sink).is_ok());
     assert_eq!(rt; fcs(sink.octets()), [0x2f, 0xcb, 0x1d, 0x35]);

@@ -1,7 +1,7 @@
 use Rattle.std.proofs.Common.{◌∙◌, ap, List, ℕ, length}
 use Rattle.pre_plant.specs.Plants.{IsPlant}
 use Rattle.pre_plant.proofs.Drawing.{length-draws_of}
-use Rattle.pre_plant.proofs.PlantRules.{plant_made, plant_fits, plant_curves, plant_counts}
+use Rattle.pre_plant.proofs.PlantRules.{plant_made, streams_fit, lines_fit, plant_curves, plant_counts}
 use Rattle.pre_plant.proofs.plants.plant.Goals as goal
 
 pub plant_streams-requires : goal.plant_streams-requires
@@ -18,8 +18,11 @@ plant_is c =
 pub returns-clause-plant : goal.returns-clause-plant
 returns-clause-plant c = plant_is c
 
-pub returns-clause-fits : goal.returns-clause-fits
-returns-clause-fits c = plant_fits c.args.number c.in_ok-network.network c.in_ok-streams.streams c.in_ok-script.script (plant_is c)
+pub returns-clause-streams_fit : goal.returns-clause-streams_fit
+returns-clause-streams_fit c = streams_fit c.args.number c.in_ok-network.network c.in_ok-streams.streams c.in_ok-script.script (plant_is c)
+
+pub returns-clause-script_fits : goal.returns-clause-script_fits
+returns-clause-script_fits c = lines_fit c.args.number c.in_ok-network.network c.in_ok-streams.streams c.in_ok-script.script (plant_is c)
 
 pub returns-clause-curves : goal.returns-clause-curves
 returns-clause-curves c = plant_curves c.args.number c.in_ok-network.network c.in_ok-streams.streams c.in_ok-script.script (plant_is c)

@@ -17,8 +17,8 @@ returns c =
     record {
       same = same;
       order = in_order two
-      (IsNonDecreasingBy-from_sort_by_key (λ s. s.tick.0) _ c.in_ok-sort_by_key-2.ensures.sorted (λ a r q k. search rules))
-      (ties_still_rise (λ s. s.stream.0) (λ s. s.tick.0) _ _ (c.in_ok-sort_by_key.ensures.sorted (λ s. s.stream.0) (answers_always _ _ _ (λ f a r g h. search rules)))
-      (c.in_ok-sort_by_key-2.ensures.stable (λ s. s.tick.0) (answers_always _ _ _ (λ f a r g h. search rules))))
-      (never_twice draws two same);
+          (IsNonDecreasingBy-from_sort_by_key (λ s. s.tick.0) _ c.in_ok-sort_by_key-2.ensures.sorted (λ a r q k. search rules))
+          (ties_still_rise (λ s. s.stream.0) (λ s. s.tick.0) _ _ (c.in_ok-sort_by_key.ensures.sorted (λ s. s.stream.0) (answers_always _ _ _ (λ f a r g h. search rules)))
+          (c.in_ok-sort_by_key-2.ensures.stable (λ s. s.tick.0) (answers_always _ _ _ (λ f a r g h. search rules))))
+          (never_twice draws two same);
     }
