@@ -12,5 +12,5 @@ pub mod Counting
 pub mod RowRules
 pub mod CurveRules
 pub mod ScriptRules
-pub mod OneScript
+pub mod OnePlant
 pub mod PlantRules

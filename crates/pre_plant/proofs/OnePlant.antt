@@ -1,4 +1,4 @@
--- A number has one script: a list in order is known by its elements.
+-- A number has one plant: a list in order is known by its elements.
 use Rattle.std.proofs.Common.{◌≡◌, ◌≢◌, ℕ, zero, suc, ◌+◌, ◌<◌, ◌≤◌, ◌⊎◌, inl, inr, List, [], ◌∷◌, length, get_or, map, Contains, All, AllPairs, refl, sym, ◌∙◌, ap, subst, arith}
 use Rattle.std.specs.List.{range_with_len}
 use Rattle.std.specs.List.Sorted.{IsPermutation}
@@ -6,11 +6,20 @@ use Rattle.std.proofs.lemmas.List.{length-map}
 use Rattle.std.proofs.lemmas.List.Sorted.{IsPermutation-sym, Contains-permutation, length_permutation}
 use Rattle.pre_base.specs.declared.numbers.Send.{Send}
 use Rattle.pre_base.specs.declared.numbers.Tick.{Tick}
+use Rattle.pre_topo.specs.declared.arcs.Arc.{Arc}
+use Rattle.pre_topo.specs.declared.network.Network.{Network}
+use Rattle.pre_topo.specs.declared.nodes.Node.{Node}
+use Rattle.pre_topo.specs.declared.nodes.Timing.{Timing}
+use Rattle.pre_topo.specs.NetworkOf.{Parts, parts_of}
+use Rattle.pre_streams.specs.declared.rows.Streams.{Streams}
 use Rattle.pre_script.specs.declared.scripts.Script.{Script}
 use Rattle.pre_script.specs.declared.scripts.SendLine.{SendLine}
 use Rattle.pre_script.specs.declared.scripts.SetLine.{SetLine}
 use Rattle.pre_script.specs.declared.scripts.Loss.{Loss}
 use Rattle.pre_script.specs.declared.scripts.Damage.{Damage}
+use Rattle.pre_plant.specs.Draws.{draws_of}
+use Rattle.pre_plant.specs.Networks.{plant_timing, plant_nodes, plant_arcs, IsPlantNetwork}
+use Rattle.pre_plant.specs.Plants.{IsPlant, AreSame}
 use Rattle.pre_plant.specs.Scripts.{AreOrdered, ComesBefore, IsPlantScript, sends_by_row}
 
 never_both : (a b : Send) → ComesBefore a b → ComesBefore b a → ⊥
@@ -98,7 +107,7 @@ same_script a b sends sets losses damages last =
     let with_until : ℕ → Script = λ x. record { sends = b.sends; sets = b.sets; losses = b.losses; damages = b.damages; until = record { 0 = x } } in
     ap with_sends sends ∙ ap with_sets sets ∙ ap with_losses losses ∙ ap with_damages damages ∙ ap with_until last
 
-pub one_script : (draws : List ℕ) (a b : Script) → IsPlantScript draws a → IsPlantScript draws b → a ≡ b
+one_script : (draws : List ℕ) (a b : Script) → IsPlantScript draws a → IsPlantScript draws b → a ≡ b
 one_script draws a b one two =
     let sends : map (λ (s : SendLine). s.send) a.sends ≡ map (λ s. s.send) b.sends = one_order (sends_by_row draws) _ _ one.sends two.sends in
     let count : length a.sends ≡ length b.sends = sym (length-map a.sends (λ (s : SendLine). s.send)) ∙ ap (λ (ss : List Send). length ss) sends ∙ length-map b.sends (λ (s : SendLine). s.send) in
@@ -109,3 +118,19 @@ one_script draws a b one two =
     let damages : a.damages ≡ b.damages = one.damages ∙ sym two.damages in
     let last : a.until.0 ≡ b.until.0 = one.until ∙ sym two.until in
     same_script a b all sets losses damages last
+
+plant_parts : (net : Network) → IsPlantNetwork net → parts_of net ≡ record { express_from = 4; timing = plant_timing; nodes = plant_nodes; arcs = plant_arcs }
+plant_parts net is =
+    let with_express : ℕ → Parts = λ x. record { express_from = x; timing = net.timing; nodes = net.nodes; arcs = net.arcs } in
+    let with_timing : Timing → Parts = λ x. record { express_from = 4; timing = x; nodes = net.nodes; arcs = net.arcs } in
+    let with_nodes : List Node → Parts = λ x. record { express_from = 4; timing = plant_timing; nodes = x; arcs = net.arcs } in
+    let with_arcs : List Arc → Parts = λ x. record { express_from = 4; timing = plant_timing; nodes = plant_nodes; arcs = x } in
+    ap with_express is.express_from ∙ ap with_timing is.timing ∙ ap with_nodes is.nodes ∙ ap with_arcs is.arcs
+
+module _ (n : ℕ) (net other : Network) (streams others : Streams) (script another : Script) where
+  pub one_plant : IsPlant n net streams script → IsPlant n other others another → AreSame net other streams others script another
+  one_plant one two = record {
+    parts = plant_parts net one.network ∙ sym (plant_parts other two.network);
+    rows = one.rows ∙ sym two.rows;
+    scripts = one_script (draws_of n) script another one.lines two.lines;
+  }
