@@ -1,5 +1,5 @@
 -- The sends of each stream keep to its curve: each send finds the bucket full, since the rate gives the burst back from one to the next.
-use Rattle.std.proofs.Common.{◌≡◌, ℕ, zero, suc, ◌+◌, ◌-◌, ◌*◌, ◌<◌, ◌≤◌, ◌==◌, ◌⊎◌, inl, inr, min, List, [], ◌∷◌, length, get_or, map, filter, slice_get, Option, Some, None, option_map, All, AllPairs, refl, sym, ◌∙◌, ap, subst, arith}
+use Rattle.std.proofs.Common.{◌≡◌, ℕ, zero, suc, ◌+◌, ◌-◌, ◌*◌, ◌<◌, ◌≤◌, ◌==◌, inl, inr, List, [], ◌∷◌, length, get_or, map, filter, Some, None, option_map, All, AllPairs, sym, ◌∙◌, ap, subst, arith}
 use Rattle.std.proofs.lemmas.Bool.{cases_lt, cases_eq, eqb-true}
 use Rattle.std.proofs.lemmas.List.{length-map, get_or-map}
 use Rattle.std.proofs.lemmas.List.Elements.{All-filter, filter_passes}
@@ -7,17 +7,17 @@ use Rattle.std.proofs.lemmas.List.Kept.{AllPairs-filter}
 use Rattle.std.proofs.lemmas.Option.{same_Some, none-some, slice_get_within, get_or_from_slice_get}
 use Rattle.pre_base.specs.declared.numbers.Send.{Send}
 use Rattle.pre_curve.specs.declared.curves.Curve.{Curve}
-use Rattle.pre_curve.specs.Buckets.{Conforms, ConformsFull, refilled}
-use Rattle.pre_curve.specs.Windows.{Offer, offer_of, offers_of, ticks_of, tick_at, InOrder, Obeys}
+use Rattle.pre_curve.specs.Buckets.{Conforms, refilled}
+use Rattle.pre_curve.specs.Windows.{Offer, offer_of, offers_of, tick_at, InOrder, Obeys}
 use Rattle.pre_curve.proofs.Tokens.{Obeys-from_conforms}
 use Rattle.pre_streams.specs.declared.rows.Row.{Row}
 use Rattle.pre_streams.specs.Made.{RowParts, row_parts, curve_parts}
 use Rattle.pre_script.specs.declared.scripts.SendLine.{SendLine}
 use Rattle.pre_plant.specs.Curves.{sends_of, CurvesHold}
-use Rattle.pre_plant.specs.Rows.{stream_max, stream_row, flow_row, plant_rows}
+use Rattle.pre_plant.specs.Rows.{stream_max, plant_rows}
 use Rattle.pre_plant.specs.Scripts.{sends_by_row, AreOrdered, ComesBefore}
 use Rattle.pre_plant.proofs.RowRules.{pairs_behind, rows_long, stream_at, flow_at}
-use Rattle.pre_plant.proofs.Sending.{IsOf, IsOfRow, Apart, gap, gap_of_stream, permuted_are, permuted_apart}
+use Rattle.pre_plant.proofs.Sending.{IsOfRow, Apart, gap_of_stream, permuted_are, permuted_apart}
 
 -- ---- from a full bucket on
 

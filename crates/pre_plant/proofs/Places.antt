@@ -1,14 +1,12 @@
 -- What stands at the places of the network's nodes and arcs.
-use Rattle.std.proofs.Common.{◌≡◌, ℕ, zero, suc, ◌+◌, ◌-◌, ◌*◌, ◌%◌, ◌<◌, ◌≤◌, List, [], ◌∷◌, ◌++◌, length, get_or, slice_get, Some, All, refl, sym, ◌∙◌, ap, subst, arith, length-append}
+use Rattle.std.proofs.Common.{◌≡◌, ℕ, zero, suc, ◌+◌, ◌*◌, ◌%◌, ◌<◌, List, [], ◌∷◌, ◌++◌, length, slice_get, Some, All, refl, ◌∙◌, ap, subst, arith}
 use Rattle.std.specs.List.{flat_map, range_with_len}
-use Rattle.std.proofs.lemmas.List.{get_or_append_left, get_or-append_right}
 use Rattle.std.proofs.lemmas.List.Elements.{All-append, All-cons, All-nil}
 use Rattle.std.proofs.lemmas.Option.{slice_get-get_or, slice_get_within, get_or_from_slice_get, none-some}
 use Rattle.pre_topo.specs.declared.arcs.Arc.{Arc}
-use Rattle.pre_topo.specs.declared.nodes.Node.{Node}
 use Rattle.pre_plant.specs.Lists.{list_of, joined_of}
 use Rattle.pre_plant.specs.Networks.{bridge, station, plant_nodes, arc_between, link_between, chain_link, station_link, plant_arcs}
-use Rattle.pre_plant.proofs.ListLaws.{length-list_of, get_or-list_of, joined_of_none, All-joined_of}
+use Rattle.pre_plant.proofs.ListLaws.{length-list_of, get_or-list_of, All-joined_of}
 
 module _ {X : Type 0} where
   -- within the first of two lists, and behind it

@@ -1,13 +1,11 @@
 -- The network of every plant meets the rules of networks.
-use Rattle.std.proofs.Common.{◌≡◌, ◌≢◌, ℕ, zero, suc, ◌+◌, ◌-◌, ◌*◌, ◌%◌, ◌<◌, ◌≤◌, ◌^◌, inl, inr, List, [], ◌∷◌, ◌++◌, codes, length, get_or, slice_get, Some, sum_by, All, AllPairs, refl, sym, ◌∙◌, ap, subst, arith, lit≤, length-append}
-use Rattle.std.specs.List.{flat_map, range_with_len, AllByRecursion as Every}
+use Rattle.std.proofs.Common.{◌≡◌, ◌≢◌, ℕ, ◌+◌, ◌-◌, ◌*◌, ◌%◌, ◌<◌, ◌≤◌, inl, inr, [], ◌∷◌, length, get_or, slice_get, Some, sum_by, All, AllPairs, refl, sym, ◌∙◌, ap, arith, lit≤, length-append}
 use Rattle.std.proofs.lemmas.Bool.{cases_lt}
 use Rattle.std.proofs.lemmas.List.Elements.{All-append, All-cons, All-nil, All-from_recursion}
 use Rattle.std.proofs.lemmas.List.Kept.{AllPairs-cons}
 use Rattle.std.proofs.lemmas.Option.{slice_get_within, same_Some}
 use Rattle.pre_topo.specs.declared.arcs.Arc.{Arc}
 use Rattle.pre_topo.specs.declared.nodes.Node.{Node}
-use Rattle.pre_topo.specs.declared.nodes.NodeKind.TheVariants.{Station, Bridge}
 use Rattle.pre_topo.specs.Arcs.{IsArc, JoinsOther, turned, slots_of_arc, wires_of_arc}
 use Rattle.pre_topo.specs.Nodes.{IsNode, IsTiming}
 use Rattle.pre_topo.specs.Rules.{IsNetwork}

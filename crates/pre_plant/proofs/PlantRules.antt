@@ -4,7 +4,7 @@ use Rattle.pre_topo.specs.declared.arcs.Arc.{Arc}
 use Rattle.pre_topo.specs.declared.network.Network.{Network}
 use Rattle.pre_topo.specs.declared.nodes.Node.{Node}
 use Rattle.pre_topo.specs.Arcs.{slots_of_arc, wires_of_arc}
-use Rattle.pre_topo.specs.Memory.{slots, wires}
+use Rattle.pre_topo.specs.Memory.{slots}
 use Rattle.pre_streams.specs.declared.rows.Streams.{Streams}
 use Rattle.pre_streams.specs.Fits as streams_rules
 use Rattle.pre_streams.specs.Made.{row_parts}
@@ -13,7 +13,7 @@ use Rattle.pre_script.specs.declared.scripts.Script.{Script}
 use Rattle.pre_plant.specs.Counts.{HasCounts}
 use Rattle.pre_plant.specs.Curves.{CurvesHold}
 use Rattle.pre_plant.specs.Draws.{draws_of}
-use Rattle.pre_plant.specs.Networks.{plant_nodes, plant_arcs, IsPlantNetwork}
+use Rattle.pre_plant.specs.Networks.{plant_nodes, IsPlantNetwork}
 use Rattle.pre_plant.specs.Rows.{plant_rows}
 use Rattle.pre_plant.specs.Scripts.{IsPlantScript}
 use Rattle.pre_plant.specs.Plants.{IsPlant}

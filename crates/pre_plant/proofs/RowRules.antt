@@ -1,10 +1,9 @@
 -- The rows of a plant fit its network.
-use Rattle.std.proofs.Common.{◌≡◌, ◌≢◌, ℕ, zero, suc, ◌+◌, ◌-◌, ◌*◌, ◌%◌, ◌<◌, ◌≤◌, ◌^◌, ◌⊎◌, inl, inr, Bool, true, false, cond, List, [], ◌∷◌, ◌++◌, length, get_or, map, Option, Some, None, IfSome, IsSome, IsNone, is_some, is_none, option_map, count_by, All, AllPairs, IsTrue, refl, sym, ◌∙◌, ap, subst, arith, lit≤, length-append}
+use Rattle.std.proofs.Common.{◌≡◌, ◌≢◌, ℕ, ◌+◌, ◌-◌, ◌*◌, ◌%◌, ◌<◌, ◌≤◌, inl, inr, Bool, true, false, cond, List, [], ◌∷◌, ◌++◌, length, get_or, map, Option, Some, None, IfSome, IsNone, is_some, is_none, option_map, count_by, All, AllPairs, IsTrue, refl, sym, ◌∙◌, ap, subst, arith, length-append}
 use Rattle.std.proofs.lemmas.Bool.{cases_lt, true≢false, false≢true}
 use Rattle.std.proofs.lemmas.List.{length-map, get_or-map, get_or_append_left, get_or-append_right}
 use Rattle.std.proofs.lemmas.List.Sums.{count_by-le-length, sum_by-append, sum_by-cons}
 use Rattle.std.proofs.lemmas.Option.{same_Some, none-some}
-use Rattle.std.proofs.Math.Nat.{mod-lt}
 use Rattle.pre_text.specs.Words.{is_name}
 use Rattle.pre_base.specs.declared.numbers.ArcId.{ArcId}
 use Rattle.pre_base.specs.declared.numbers.NodeId.{NodeId}

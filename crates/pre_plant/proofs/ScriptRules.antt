@@ -1,10 +1,10 @@
 -- The script of a plant fits its network and its rows.
-use Rattle.std.proofs.Common.{◌≡◌, ℕ, zero, suc, ◌+◌, ◌-◌, ◌*◌, ◌/◌, ◌%◌, ◌<◌, ◌≤◌, ◌^◌, ◌⊎◌, inl, inr, Bool, true, false, cond, min, not, nat_lt, List, [], ◌∷◌, ◌++◌, length, get_or, map, slice_get, Option, Some, None, count_by, All, AllPairs, refl, sym, ◌∙◌, ap, subst, arith, length-append}
+use Rattle.std.proofs.Common.{◌≡◌, ℕ, ◌+◌, ◌-◌, ◌*◌, ◌/◌, ◌<◌, ◌≤◌, ◌^◌, inl, inr, Bool, true, false, cond, min, not, nat_lt, List, [], ◌++◌, length, get_or, map, slice_get, Some, None, count_by, All, AllPairs, refl, sym, ◌∙◌, ap, subst, arith, length-append}
 use Rattle.std.specs.List.{list_any}
 use Rattle.std.proofs.Math.Nat.{div-mul-le_self, mul-le-mul_right}
 use Rattle.std.proofs.lemmas.Bool.{cases_lt, lt-ltb, le-ltb}
 use Rattle.std.proofs.lemmas.List.{length-map, get_or-map}
-use Rattle.std.proofs.lemmas.List.Elements.{All-nil, All-append}
+use Rattle.std.proofs.lemmas.List.Elements.{All-nil}
 use Rattle.std.proofs.lemmas.List.Sorted.{length_permutation, sum_by-IsPermutation}
 use Rattle.std.proofs.lemmas.List.Sums.{sum_by-append}
 use Rattle.std.proofs.lemmas.Option.{slice_get-get_or}
@@ -23,15 +23,15 @@ use Rattle.pre_script.specs.declared.scripts.SetLine.{SetLine}
 use Rattle.pre_script.specs.Fits.{Fits, IsSend, IsSet, IsLoss, IsDamage, SendsInOrder, SetsInOrder}
 use Rattle.pre_script.specs.Rules.{horizon, negotiates}
 use Rattle.pre_plant.specs.Draws.{draw}
-use Rattle.pre_plant.specs.Lists.{list_of, joined_of}
-use Rattle.pre_plant.specs.Networks.{plant_arcs, IsPlantNetwork}
+use Rattle.pre_plant.specs.Lists.{joined_of}
+use Rattle.pre_plant.specs.Networks.{IsPlantNetwork}
 use Rattle.pre_plant.specs.Rows.{stream_max, plant_rows}
-use Rattle.pre_plant.specs.Scripts.{times, nth_send, sends_every, stream_period, stream_sends, flow_sends, sends_by_row, ComesBefore, loss, damage, IsPlantScript}
+use Rattle.pre_plant.specs.Scripts.{times, nth_send, stream_period, stream_sends, flow_sends, sends_by_row, ComesBefore, loss, damage, IsPlantScript}
 use Rattle.pre_plant.proofs.Counting.{count_map, count_all, count_none, length-joined_of-le, length-joined_of}
 use Rattle.pre_plant.proofs.ListLaws.{length-list_of, All-list_of, All-joined_of}
 use Rattle.pre_plant.proofs.PlantNetworks.{arcs_count}
 use Rattle.pre_plant.proofs.RowRules.{pairs_behind, rows_long, stream_at, flow_at}
-use Rattle.pre_plant.proofs.Sending.{IsOf, IsOfRow, draw_below, stream_sends_are, flow_sends_are, permuted_are}
+use Rattle.pre_plant.proofs.Sending.{IsOfRow, draw_below, stream_sends_are, flow_sends_are, permuted_are}
 
 -- ---- how many sends there are
 

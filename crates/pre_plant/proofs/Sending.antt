@@ -1,12 +1,12 @@
 -- What each send of a plant is, and that those of one row lie apart.
-use Rattle.std.proofs.Common.{◌≡◌, ◌≢◌, ℕ, zero, suc, ◌+◌, ◌-◌, ◌*◌, ◌/◌, ◌%◌, ◌<◌, ◌≤◌, ◌⊎◌, inl, inr, cond, nat_lt, List, [], ◌∷◌, ◌++◌, length, get_or, All, AllPairs, refl, sym, ◌∙◌, ap, subst, arith}
+use Rattle.std.proofs.Common.{◌≡◌, ◌≢◌, ℕ, ◌+◌, ◌*◌, ◌<◌, ◌≤◌, ◌⊎◌, inl, inr, cond, nat_lt, List, get_or, All, AllPairs, refl, sym, ◌∙◌, ap, arith}
 use Rattle.std.proofs.Math.Nat.{mul-le-mul_right, mod-lt}
 use Rattle.std.proofs.lemmas.Bool.{cases_lt, lt-ltb, le-ltb}
 use Rattle.std.proofs.lemmas.List.Elements.{All-append}
 use Rattle.std.specs.List.Sorted.{IsPermutation}
 use Rattle.std.proofs.lemmas.List.Sorted.{All-permutation}
 use Rattle.pre_base.specs.declared.numbers.Send.{Send}
-use Rattle.pre_plant.specs.Lists.{list_of, joined_of}
+use Rattle.pre_plant.specs.Lists.{joined_of}
 use Rattle.pre_plant.specs.Draws.{draw}
 use Rattle.pre_plant.specs.Rows.{stream_max}
 use Rattle.pre_plant.specs.Scripts.{times, nth_send, sends_every, stream_period, stream_sends, flow_sends, sends_by_row}

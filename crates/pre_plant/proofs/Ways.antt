@@ -1,7 +1,7 @@
 -- The way between two stations is a route of the network.
-use Rattle.std.proofs.Common.{◌≡◌, ◌≢◌, ℕ, zero, suc, ◌+◌, ◌-◌, ◌*◌, ◌%◌, ◌<◌, ◌≤◌, ◌⊎◌, inl, inr, List, [], ◌∷◌, ◌++◌, length, get_or, slice_get, Some, All, AllPairs, refl, sym, ◌∙◌, ap, subst, arith, length-append, nat_le, cond, true, false, Bool}
+use Rattle.std.proofs.Common.{◌≡◌, ◌≢◌, ℕ, zero, suc, ◌+◌, ◌-◌, ◌*◌, ◌%◌, ◌<◌, ◌≤◌, ◌⊎◌, inl, inr, List, [], ◌∷◌, ◌++◌, length, get_or, slice_get, Some, AllPairs, refl, sym, ◌∙◌, ap, subst, arith, length-append, cond}
 use Rattle.std.proofs.lemmas.Bool.{cases_lt, le-leb, lt-leb}
-use Rattle.std.proofs.lemmas.Option.{slice_get-get_or, slice_get_within, get_or_from_slice_get, same_Some}
+use Rattle.std.proofs.lemmas.Option.{slice_get-get_or, slice_get_within, same_Some}
 use Rattle.pre_base.specs.declared.numbers.ArcId.{ArcId}
 use Rattle.pre_base.specs.declared.numbers.NodeId.{NodeId}
 use Rattle.pre_topo.specs.declared.arcs.Arc.{Arc}
@@ -12,7 +12,7 @@ use Rattle.pre_streams.specs.Rows.{IsOfKind, Leads, IsRoute, OnEach}
 use Rattle.pre_plant.specs.Lists.{list_of}
 use Rattle.pre_plant.specs.Networks.{bridge, station, plant_nodes, plant_arcs, arc_between, IsPlantNetwork}
 use Rattle.pre_plant.specs.Rows.{distance, bridge_on_way, arc_on_way, node_of, arc_of, route_between, arcs_between}
-use Rattle.pre_plant.proofs.ListLaws.{length-list_of, get_or-list_of}
+use Rattle.pre_plant.proofs.ListLaws.{length-list_of}
 use Rattle.pre_plant.proofs.Places.{slice_get_left, slice_get_right, slice_get-list_of, bridge_at, station_at, arc_up, arc_down, arc_out, arc_in, IsPlantArc, each_arc, holds_at}
 
 -- ---- a list with a first and a last item around those at each number

@@ -1,5 +1,5 @@
 -- How much a plant has of everything.
-use Rattle.std.specs.Prelude.{◌≡◌, ◌<◌, ◌≤◌, ◌+◌, nat_lt, not, length, count_by, is_some, is_none, All}
+use Rattle.std.specs.Prelude.{◌≡◌, ◌<◌, ◌≤◌, nat_lt, not, length, count_by, is_some, is_none, All}
 use Rattle.pre_topo.specs.declared.network.Network.{Network}
 use Rattle.pre_topo.specs.Memory.{slots, wires}
 use Rattle.pre_streams.specs.declared.rows.Streams.{Streams}
