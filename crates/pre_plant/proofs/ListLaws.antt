@@ -70,7 +70,8 @@ module _ {X : Type 0} where
       let long = length-list_of f n in
       subst (λ x. R x (get_or (list_of n f) j d)) (sym (get_or-list_of f n i d (omega arith))) (subst (R (f i)) (sym (get_or-list_of f n j d (omega arith))) (h i j lt (omega arith)))
 
-  pub AllPairs-joined_of : (R : X → X → Type 0) (f : ℕ → List X) (n : ℕ) → ((i : ℕ) → i < n → AllPairs R (f i)) → ((i j : ℕ) → i < j → j < n → All (λ x. All (R x) (f j)) (f i)) → AllPairs R (joined_of n f)
+  pub AllPairs-joined_of : (R : X → X → Type 0) (f : ℕ → List X) (n : ℕ) → ((i : ℕ) → i < n → AllPairs R (f i)) → ((i j : ℕ) → i < j → j < n → All (λ x. All (R x) (f j)) (f i))
+      → AllPairs R (joined_of n f)
   AllPairs-joined_of R f zero each across = subst (AllPairs R) (sym (joined_of_none f)) (λ i j d lt within. absurd (omega arith))
   AllPairs-joined_of R f (suc n) each across =
       let on : n + 1 ≡ suc n = omega arith in

@@ -27,7 +27,8 @@ module _ {X : Type 0} where
       slice_get-get_or (list_of n f) i (f i) (omega (arith, length-list_of f n)) ∙ ap (λ x. Some x) (get_or-list_of f n i (f i) lt)
 
   -- lists of two, joined: item i of the first kind stands at 2i, and that of the second at 2i + 1
-  pairs_from : (f g : ℕ → X) (a n i j : ℕ) → i < n → j ≡ i + i → (slice_get (flat_map (λ k. f k ∷ g k ∷ []) (range_with_len a n)) j ≡ Some (f (a + i))) × (slice_get (flat_map (λ k. f k ∷ g k ∷ []) (range_with_len a n)) (suc j) ≡ Some (g (a + i)))
+  pairs_from : (f g : ℕ → X) (a n i j : ℕ) → i < n → j ≡ i + i
+      → (slice_get (flat_map (λ k. f k ∷ g k ∷ []) (range_with_len a n)) j ≡ Some (f (a + i))) × (slice_get (flat_map (λ k. f k ∷ g k ∷ []) (range_with_len a n)) (suc j) ≡ Some (g (a + i)))
   pairs_from f g a zero i j lt e = absurd (omega (arith, lt))
   pairs_from f g a (suc n) zero zero lt e = let same : a ≡ a + 0 = omega arith in (ap (λ k. Some (f k)) same, ap (λ k. Some (g k)) same)
   pairs_from f g a (suc n) zero (suc j) lt e = absurd (omega (arith, e))
@@ -38,7 +39,8 @@ module _ {X : Type 0} where
       let on : a + 1 + i ≡ a + suc i = omega arith in
       (rest.0 ∙ ap (λ k. Some (f k)) on, rest.1 ∙ ap (λ k. Some (g k)) on)
 
-  pub slice_get-pairs : (f g : ℕ → X) (n i : ℕ) → i < n → (slice_get (joined_of n (λ k. f k ∷ g k ∷ [])) (2 * i) ≡ Some (f i)) × (slice_get (joined_of n (λ k. f k ∷ g k ∷ [])) (2 * i + 1) ≡ Some (g i))
+  pub slice_get-pairs : (f g : ℕ → X) (n i : ℕ) → i < n
+      → (slice_get (joined_of n (λ k. f k ∷ g k ∷ [])) (2 * i) ≡ Some (f i)) × (slice_get (joined_of n (λ k. f k ∷ g k ∷ [])) (2 * i + 1) ≡ Some (g i))
   unfolding joined_of
   slice_get-pairs f g n i lt =
       let found = pairs_from f g 0 n i (2 * i) lt (omega arith) in

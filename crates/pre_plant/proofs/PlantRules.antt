@@ -26,7 +26,8 @@ slots_are : (net : Network) → IsPlantNetwork net → slots net ≡ 49_328
 slots_are net is =
     ap (λ (ns : List Node). sum_by (slots_of_arc ns) net.arcs) is.nodes ∙ ap (λ (as_ : List Arc). sum_by (slots_of_arc plant_nodes) as_) is.arcs ∙ slots_sum
 
-pub plant_made : (n : ℕ) (net : Network) (streams : Streams) (script : Script) (one two : List ℕ) → one ≡ draws_of n → two ≡ draws_of n → IsPlantNetwork net → map row_parts streams.rows ≡ plant_rows one → IsPlantScript two script → IsPlant n net streams script
+pub plant_made : (n : ℕ) (net : Network) (streams : Streams) (script : Script) (one two : List ℕ) → one ≡ draws_of n → two ≡ draws_of n → IsPlantNetwork net
+    → map row_parts streams.rows ≡ plant_rows one → IsPlantScript two script → IsPlant n net streams script
 plant_made n net streams script one two first second network rows lines = record {
   network = network;
   rows = rows ∙ ap plant_rows first;

@@ -1,5 +1,6 @@
 -- The rows of a plant fit its network.
-use Rattle.std.proofs.Common.{◌≡◌, ◌≢◌, ℕ, ◌+◌, ◌-◌, ◌*◌, ◌%◌, ◌<◌, ◌≤◌, inl, inr, Bool, true, false, cond, List, [], ◌∷◌, ◌++◌, length, get_or, map, Option, Some, None, IfSome, IsNone, is_some, is_none, option_map, count_by, All, AllPairs, IsTrue, refl, sym, ◌∙◌, ap, subst, arith, length-append}
+use Rattle.std.proofs.Common.{◌≡◌, ◌≢◌, ℕ, ◌+◌, ◌-◌, ◌*◌, ◌%◌, ◌<◌, ◌≤◌, inl, inr, Bool, true, false, cond, List, [], ◌∷◌, ◌++◌, length, get_or, map, Option, Some, None, IfSome}
+use Rattle.std.proofs.Common.{IsNone, is_some, is_none, option_map, count_by, All, AllPairs, IsTrue, refl, sym, ◌∙◌, ap, subst, arith, length-append}
 use Rattle.std.proofs.lemmas.Bool.{cases_lt, true≢false, false≢true}
 use Rattle.std.proofs.lemmas.List.{length-map, get_or-map, get_or_append_left, get_or-append_right}
 use Rattle.std.proofs.lemmas.List.Sums.{count_by-le-length, sum_by-append, sum_by-cons}
@@ -132,7 +133,9 @@ module _ (draws : List ℕ) (rows : List Row) (are : map row_parts rows ≡ plan
       ]
 
   -- what holds of each two rows: of two streams, of two flows, and of a stream and a flow
-  pub each_two : (R : RowParts → RowParts → Type 0) → ((i j : ℕ) → i < j → j < 60 → R (stream_row draws i) (stream_row draws j)) → ((i j : ℕ) → i < j → j < 30 → R (flow_row draws i) (flow_row draws j)) → ((i j : ℕ) → i < 60 → j < 30 → R (stream_row draws i) (flow_row draws j)) → AllPairs (λ q r. R (row_parts q) (row_parts r)) rows
+  pub each_two : (R : RowParts → RowParts → Type 0) → ((i j : ℕ) → i < j → j < 60 → R (stream_row draws i) (stream_row draws j))
+      → ((i j : ℕ) → i < j → j < 30 → R (flow_row draws i) (flow_row draws j)) → ((i j : ℕ) → i < 60 → j < 30 → R (stream_row draws i) (flow_row draws j))
+      → AllPairs (λ q r. R (row_parts q) (row_parts r)) rows
   each_two R streams flows both =
       pairs_behind R row_parts rows
       (subst (AllPairs R) (sym all)

@@ -1,5 +1,6 @@
 -- The way between two stations is a route of the network.
-use Rattle.std.proofs.Common.{◌≡◌, ◌≢◌, ℕ, zero, suc, ◌+◌, ◌-◌, ◌*◌, ◌%◌, ◌<◌, ◌≤◌, ◌⊎◌, inl, inr, List, [], ◌∷◌, ◌++◌, length, get_or, slice_get, Some, AllPairs, refl, sym, ◌∙◌, ap, subst, arith, length-append, cond}
+use Rattle.std.proofs.Common.{◌≡◌, ◌≢◌, ℕ, zero, suc, ◌+◌, ◌-◌, ◌*◌, ◌%◌, ◌<◌, ◌≤◌, ◌⊎◌, inl, inr, List, [], ◌∷◌, ◌++◌, length, get_or, slice_get, Some, AllPairs, refl, sym, ◌∙◌}
+use Rattle.std.proofs.Common.{ap, subst, arith, length-append, cond}
 use Rattle.std.proofs.lemmas.Bool.{cases_lt, le-leb, lt-leb}
 use Rattle.std.proofs.lemmas.Option.{slice_get-get_or, slice_get_within, same_Some}
 use Rattle.pre_base.specs.declared.numbers.ArcId.{ArcId}
@@ -221,7 +222,8 @@ module _ (net : Network) (is : IsPlantNetwork net) (s d : ℕ) (s_in : s < 40) (
       (at_node j (get_or nodes j e) (slice_get-get_or nodes j e within))
 
   -- it is enough that the hop leads between the nodes that stand at two places
-  leads_at : (i : ℕ) (h : ArcId) (m n p q : NodeId) → Leads net h p q → slice_get nodes i ≡ Some p → slice_get nodes (i + 1) ≡ Some q → slice_get nodes i ≡ Some m → slice_get nodes (i + 1) ≡ Some n → Leads net h m n
+  leads_at : (i : ℕ) (h : ArcId) (m n p q : NodeId) → Leads net h p q → slice_get nodes i ≡ Some p → slice_get nodes (i + 1) ≡ Some q → slice_get nodes i ≡ Some m
+      → slice_get nodes (i + 1) ≡ Some n → Leads net h m n
   leads_at i h m n p q leads p_at q_at m_at n_at =
       subst (λ x. Leads net h x n) (same_Some p m (sym p_at ∙ m_at)) (subst (λ x. Leads net h p x) (same_Some q n (sym q_at ∙ n_at)) leads)
 
