@@ -26,7 +26,8 @@ module _ {X : Type 0} (f : ℕ → List X) (m : ℕ) where
   length-joined_of-le zero each = omega (arith, ap (λ (xs : List X). length xs) (joined_of_none f))
   length-joined_of-le (suc n) each =
       let on : n + 1 ≡ suc n = omega arith in
-      let split : length (joined_of (suc n) f) ≡ length (joined_of n f) + length (f n) = ap (λ k. length (joined_of k f)) (sym on) ∙ ap (λ (xs : List X). length xs) (joined_of_more f n) ∙ length-append (joined_of n f) (f n) in
+      let split : length (joined_of (suc n) f) ≡ length (joined_of n f) + length (f n) = ap (λ k. length (joined_of k f)) (sym on) ∙ ap (λ (xs : List X). length xs)
+      (joined_of_more f n) ∙ length-append (joined_of n f) (f n) in
       let rest = length-joined_of-le n (λ i lt. each i (omega arith)) in
       let last = each n (omega arith) in
       let whole : suc n * m ≡ n * m + m = grind arith in
@@ -36,7 +37,8 @@ module _ {X : Type 0} (f : ℕ → List X) (m : ℕ) where
   length-joined_of zero each = omega (arith, ap (λ (xs : List X). length xs) (joined_of_none f))
   length-joined_of (suc n) each =
       let on : n + 1 ≡ suc n = omega arith in
-      let split : length (joined_of (suc n) f) ≡ length (joined_of n f) + length (f n) = ap (λ k. length (joined_of k f)) (sym on) ∙ ap (λ (xs : List X). length xs) (joined_of_more f n) ∙ length-append (joined_of n f) (f n) in
+      let split : length (joined_of (suc n) f) ≡ length (joined_of n f) + length (f n) = ap (λ k. length (joined_of k f)) (sym on) ∙ ap (λ (xs : List X). length xs)
+      (joined_of_more f n) ∙ length-append (joined_of n f) (f n) in
       let rest = length-joined_of n (λ i lt. each i (omega arith)) in
       let last = each n (omega arith) in
       let whole : suc n * m ≡ n * m + m = grind arith in

@@ -91,12 +91,16 @@ module _ (draws : List ℕ) (lines : List SendLine) (ordered : AreOrdered (sends
   each_of_stream : All (λ s. OfStream s.send) of_row
   each_of_stream k d within =
       let s = get_or of_row k d in
-      of_stream s.send (eqb-true s.send.stream.0 i (filter_passes (λ (s : SendLine). s.send.stream.0 == i) lines k d within)) (All-filter (λ (s : SendLine). s.send.stream.0 == i) (λ s. IsOfRow draws s.send) lines sizes_by_row k d within)
+      of_stream s.send (eqb-true s.send.stream.0 i (filter_passes (λ (s : SendLine). s.send.stream.0 == i) lines k d within)) (All-filter (λ (s : SendLine). s.send.stream.0 == i)
+      (λ s. IsOfRow draws s.send) lines sizes_by_row k d within)
 
   pairs_of_stream : AllPairs (λ a b. Apart a.send b.send × ComesBefore a.send b.send) of_row
   pairs_of_stream =
       AllPairs-filter (λ a b. Apart a.send b.send × ComesBefore a.send b.send) (λ s. s.send.stream.0 == i) lines
-      (λ p q d before within. (pairs_behind Apart (λ (s : SendLine). s.send) lines (permuted_apart draws (map (λ s. s.send) lines) ordered.same) p q d before within, pairs_behind ComesBefore (λ (s : SendLine). s.send) lines ordered.order p q d before within))
+      (λ p q d before within. (
+        pairs_behind Apart (λ (s : SendLine). s.send) lines (permuted_apart draws (map (λ s. s.send) lines) ordered.same) p q d before within,
+        pairs_behind ComesBefore (λ (s : SendLine). s.send) lines ordered.order p q d before within,
+      ))
 
   abbrev sent : List Send
   sent = sends_of lines i
@@ -112,7 +116,8 @@ module _ (draws : List ℕ) (lines : List SendLine) (ordered : AreOrdered (sends
       let ls : SendLine = record { send = d; line = 0 } in
       let inside : q < length of_row = omega (arith, within, length-map of_row (λ (s : SendLine). s.send)) in
       subst (λ a. Apart a (get_or sent q d) × ComesBefore a (get_or sent q d)) (sym (get_or-map (λ (s : SendLine). s.send) of_row p ls d (omega (arith, before, inside))))
-      (subst (λ b. Apart (get_or of_row p ls).send b × ComesBefore (get_or of_row p ls).send b) (sym (get_or-map (λ (s : SendLine). s.send) of_row q ls d inside)) (pairs_of_stream p q ls before inside))
+      (subst (λ b. Apart (get_or of_row p ls).send b × ComesBefore (get_or of_row p ls).send b) (sym (get_or-map (λ (s : SendLine). s.send) of_row q ls d inside))
+      (pairs_of_stream p q ls before inside))
 
   sent_in_order : AllPairs (λ a b. a.tick.0 ≤ b.tick.0) sent
   sent_in_order p q d before within = later_tick (get_or sent p d) (get_or sent q d) (sent_pairs p q d before within).1

@@ -58,7 +58,8 @@ same_first x y xs ys one two x_in y_in =
 within_rest : (x y z : Send) (xs ys : List Send) → x ≡ y → AllPairs ComesBefore (x ∷ xs) → Contains xs z → Contains (y ∷ ys) z → Contains ys z
 within_rest x y z xs ys same order here there =
     elim (first_or_later y z ys there) [
-      | inl first ↦ absurd (never_both x z (later_than x z xs order here) (subst (λ w. ComesBefore w x) (sym (first ∙ sym same)) (subst (λ w. ComesBefore x w) (first ∙ sym same) (later_than x z xs order here))))
+      | inl first ↦ absurd (never_both x z (later_than x z xs order here) (subst (λ w. ComesBefore w x) (sym (first ∙ sym same)) (subst (λ w. ComesBefore x w) (first ∙ sym same)
+          (later_than x z xs order here))))
       | inr later ↦ later
     ]
 

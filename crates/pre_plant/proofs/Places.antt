@@ -70,18 +70,21 @@ arc_up i lt = slice_get_left (joined_of 11 chain_link) (joined_of 40 station_lin
 
 pub arc_down : (i : ℕ) → i < 11 → slice_get plant_arcs (2 * i + 1) ≡ Some (arc_between (i + 1) i)
 unfolding plant_arcs
-arc_down i lt = slice_get_left (joined_of 11 chain_link) (joined_of 40 station_link) (2 * i + 1) (arc_between (i + 1) i) (slice_get-pairs (λ k. arc_between k (k + 1)) (λ k. arc_between (k + 1) k) 11 i lt).1
+arc_down i lt = slice_get_left (joined_of 11 chain_link) (joined_of 40 station_link) (2 * i + 1) (arc_between (i + 1) i) (slice_get-pairs (λ k. arc_between k (k + 1))
+    (λ k. arc_between (k + 1) k) 11 i lt).1
 
 pub arc_out : (j : ℕ) → j < 40 → slice_get plant_arcs (22 + 2 * j) ≡ Some (arc_between (12 + j) (j % 12))
 unfolding plant_arcs
-arc_out j lt = slice_get_right (joined_of 11 chain_link) (joined_of 40 station_link) 22 (2 * j) (arc_between (12 + j) (j % 12)) chain_length (slice_get-pairs (λ k. arc_between (12 + k) (k % 12)) (λ k. arc_between (k % 12) (12 + k)) 40 j lt).0
+arc_out j lt = slice_get_right (joined_of 11 chain_link) (joined_of 40 station_link) 22 (2 * j) (arc_between (12 + j) (j % 12)) chain_length (slice_get-pairs (λ k. arc_between
+    (12 + k) (k % 12)) (λ k. arc_between (k % 12) (12 + k)) 40 j lt).0
 
 pub arc_in : (j : ℕ) → j < 40 → slice_get plant_arcs (23 + 2 * j) ≡ Some (arc_between (j % 12) (12 + j))
 unfolding plant_arcs
 arc_in j lt =
     let on : 22 + (2 * j + 1) ≡ 23 + 2 * j = omega arith in
     subst (λ k. slice_get (joined_of 11 chain_link ++ joined_of 40 station_link) k ≡ Some (arc_between (j % 12) (12 + j))) on
-    (slice_get_right (joined_of 11 chain_link) (joined_of 40 station_link) 22 (2 * j + 1) (arc_between (j % 12) (12 + j)) chain_length (slice_get-pairs (λ k. arc_between (12 + k) (k % 12)) (λ k. arc_between (k % 12) (12 + k)) 40 j lt).1)
+    (slice_get_right (joined_of 11 chain_link) (joined_of 40 station_link) 22 (2 * j + 1) (arc_between (j % 12) (12 + j)) chain_length (slice_get-pairs (λ k. arc_between (12 + k)
+    (k % 12)) (λ k. arc_between (k % 12) (12 + k)) 40 j lt).1)
 
 -- each arc is express from priority 4 on, carries frames up to 1522 octets, and negotiates
 pub record IsPlantArc (a : Arc) : Type 0 where

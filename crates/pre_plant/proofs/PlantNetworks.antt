@@ -56,7 +56,22 @@ arc_is from to from_in to_in apart = record {
   cost = (lit≤ tt, lit≤ tt);
   delay = lit≤ tt;
   add_frag = lit≤ tt;
-  rings = All-from_recursion (λ r. (1 ≤ r) × (r ≤ 4096)) (8 ∷ 8 ∷ 8 ∷ 8 ∷ 112 ∷ 112 ∷ 112 ∷ 112 ∷ []) ((lit≤ tt, lit≤ tt), ((lit≤ tt, lit≤ tt), ((lit≤ tt, lit≤ tt), ((lit≤ tt, lit≤ tt), ((lit≤ tt, lit≤ tt), ((lit≤ tt, lit≤ tt), ((lit≤ tt, lit≤ tt), ((lit≤ tt, lit≤ tt), tt))))))));
+  rings = All-from_recursion (λ r. (1 ≤ r) × (r ≤ 4096)) (8 ∷ 8 ∷ 8 ∷ 8 ∷ 112 ∷ 112 ∷ 112 ∷ 112 ∷ []) (
+    (lit≤ tt, lit≤ tt),
+    (
+      (lit≤ tt, lit≤ tt),
+      (
+        (lit≤ tt, lit≤ tt),
+        (
+          (
+            lit≤ tt,
+            lit≤ tt,
+          ),
+          ((lit≤ tt, lit≤ tt), ((lit≤ tt, lit≤ tt), ((lit≤ tt, lit≤ tt), ((lit≤ tt, lit≤ tt), tt)))),
+        ),
+      ),
+    ),
+  );
   express_from = (lit≤ tt, lit≤ tt);
   largest = (lit≤ tt, lit≤ tt);
 }
@@ -119,7 +134,8 @@ paired i x y there back =
           let lt : i - 11 < 40 = omega (arith, within, arcs_count) in
           let out : 2 * i ≡ 22 + 2 * (i - 11) = omega (arith, le) in
           let in_ : 2 * i + 1 ≡ 23 + 2 * (i - 11) = omega (arith, le) in
-          sym (same_Some _ _ (sym (arc_in (i - 11) lt) ∙ sym (ap (slice_get plant_arcs) in_) ∙ back)) ∙ ap turned (same_Some _ _ (sym (arc_out (i - 11) lt) ∙ sym (ap (slice_get plant_arcs) out) ∙ there))
+          sym (same_Some _ _ (sym (arc_in (i - 11) lt) ∙ sym (ap (slice_get plant_arcs) in_) ∙ back)) ∙ ap turned (same_Some _ _ (sym (arc_out (i - 11) lt) ∙ sym (ap
+          (slice_get plant_arcs) out) ∙ there))
     ]
 
 pub slots_sum : sum_by (slots_of_arc plant_nodes) plant_arcs ≡ 49_328

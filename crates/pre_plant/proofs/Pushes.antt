@@ -24,7 +24,20 @@ few_rows f g none some rows empty first second =
     let one = ap (λ (ps : List RowParts). length ps) first in
     let two = ap (λ (ps : List RowParts). length ps) second in
     let no_row : length none ≡ 0 = ap (λ (rs : List Row). length rs) empty in
-    omega (arith, one, two, no_row, length-map none row_parts, length-map some row_parts, length-map rows row_parts, length-append (map row_parts none) (list_of 60 f), length-append (map row_parts some) (list_of 30 g), length-list_of f 60, length-list_of g 30)
+    omega (
+      arith,
+      one,
+      two,
+      no_row,
+      length-map none row_parts,
+      length-map some row_parts,
+      length-map rows row_parts,
+      length-append (map row_parts none) (list_of 60 f),
+      length-append
+          (map row_parts some) (list_of 30 g),
+      length-list_of f 60,
+      length-list_of g 30,
+    )
 
 range_push : (a n : ℕ) → range_with_len a (suc n) ≡ range_with_len a n ++ (a + n) ∷ []
 range_push a zero = let same : a ≡ a + 0 = omega arith in ap (λ k. k ∷ []) same

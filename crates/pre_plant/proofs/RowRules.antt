@@ -68,9 +68,17 @@ module _ (net : Network) (is : IsPlantNetwork net) (draws : List ℕ) where
         stream = λ some. on_every_way net is r.arcs (λ a. a.express_from ≤ r.prio) (λ x p. omega (arith, p.express_from, prio));
         flow = λ none. absurd (true≢false (sym has ∙ none));
         largest = λ none. absurd (true≢false (sym has ∙ none));
-        route = route_is r (source i) (stream_destination draws i) (omega arith) (omega arith) (other_station i _ (draw_below draws (2 * i) 39 (omega arith))) (ap (λ (p : RowParts). p.route) parts) (ap (λ (p : RowParts). p.arcs) parts);
+        route = route_is r (source i) (stream_destination draws i) (omega arith) (omega arith) (other_station i _ (draw_below draws (2 * i) 39 (omega arith))) (ap (λ
+            (p : RowParts). p.route) parts) (ap (λ (p : RowParts). p.arcs) parts);
         max = (omega (arith, size), omega (arith, size, small));
-        curve = subst (λ (o : Option Curve). IfSome o (IsCurveOf r.max)) (sym curve) (record { burst = (omega (arith, burst), omega (arith, burst, small)); rate = (omega (arith, rate), omega (arith, rate)); frame = omega (arith, burst, size) });
+        curve = subst (λ (o : Option Curve). IfSome o (IsCurveOf r.max)) (sym curve) (record {
+          burst = (omega (arith, burst), omega (arith, burst, small));
+          rate = (
+            omega (arith, rate),
+            omega (arith, rate),
+          );
+          frame = omega (arith, burst, size);
+        });
       }
 
   pub flow_is_row : (r : Row) (i : ℕ) → i < 30 → row_parts r ≡ flow_row draws i → IsRow net r
@@ -86,7 +94,8 @@ module _ (net : Network) (is : IsPlantNetwork net) (draws : List ℕ) where
         stream = λ some. absurd (false≢true (sym none ∙ some));
         flow = λ _. on_every_way net is r.arcs (λ a. r.prio < a.express_from) (λ x p. omega (arith, p.express_from, prio));
         largest = λ _. on_every_way net is r.arcs (λ a. r.max ≤ a.largest) (λ x p. omega (arith, p.largest, size));
-        route = route_is r (source i) (flow_destination draws i) (omega arith) (omega arith) (other_station i _ (draw_below draws (120 + i) 39 (omega arith))) (ap (λ (p : RowParts). p.route) parts) (ap (λ (p : RowParts). p.arcs) parts);
+        route = route_is r (source i) (flow_destination draws i) (omega arith) (omega arith) (other_station i _ (draw_below draws (120 + i) 39 (omega arith))) (ap (λ
+            (p : RowParts). p.route) parts) (ap (λ (p : RowParts). p.arcs) parts);
         max = (omega (arith, size), omega (arith, size));
         curve = subst (λ (o : Option Curve). IfSome o (IsCurveOf r.max)) (sym curve) tt;
       }
@@ -103,7 +112,15 @@ module _ (draws : List ℕ) (rows : List Row) (are : map row_parts rows ≡ plan
 
   pub rows_long : length rows ≡ 90
   rows_long =
-      omega (arith, length-map rows row_parts, ap (λ (ps : List RowParts). length ps) all, length-append (list_of 60 (stream_row draws)) (list_of 30 (flow_row draws)), length-list_of (stream_row draws) 60, length-list_of (flow_row draws) 30)
+      omega (
+        arith,
+        length-map rows row_parts,
+        ap (λ (ps : List RowParts). length ps) all,
+        length-append (list_of 60 (stream_row draws)) (list_of 30 (flow_row draws)),
+        length-list_of
+            (stream_row draws) 60,
+        length-list_of (flow_row draws) 30,
+      )
 
   part_at : (k : ℕ) (d : Row) → k < 90 → row_parts (get_or rows k d) ≡ get_or (list_of 60 (stream_row draws) ++ list_of 30 (flow_row draws)) k (row_parts d)
   part_at k d lt = sym (get_or-map row_parts rows k d (row_parts d) (omega (arith, rows_long))) ∙ ap (λ (ps : List RowParts). get_or ps k (row_parts d)) all
@@ -189,7 +206,8 @@ module _ (draws : List ℕ) (rows : List Row) (are : map row_parts rows ≡ plan
       count_agree : (p q : Row → Bool) → ((r : Row) → p r ≡ q r) → (rs : List Row) → count_by p rs ≡ count_by q rs
       count_agree p q agree [] = refl
       count_agree p q agree (r ∷ rs) =
-          sum_by-cons (λ x. cond (p x) 1 0) r rs ∙ ap (λ b. cond b 1 0 + count_by p rs) (agree r) ∙ ap (λ n. cond (q r) 1 0 + n) (count_agree p q agree rs) ∙ sym (sum_by-cons (λ x. cond (q x) 1 0) r rs)
+          sum_by-cons (λ x. cond (p x) 1 0) r rs ∙ ap (λ b. cond b 1 0 + count_by p rs) (agree r) ∙ ap (λ n. cond (q r) 1 0 + n) (count_agree p q agree rs) ∙ sym (sum_by-cons
+          (λ x. cond (q x) 1 0) r rs)
 
   pub streams_counted : count_by (λ r. is_some r.curve) rows ≡ 60
   streams_counted =

@@ -85,21 +85,37 @@ is_of_stream s = nat_lt s.stream.0 60
 
 stream_tests : (draws : List ℕ) → All (λ s. is_of_stream s ≡ true) (of_streams draws)
 stream_tests draws =
-    All-joined_of (λ s. is_of_stream s ≡ true) (stream_sends draws) 60 (λ i lt k d within. lt-ltb (get_or (stream_sends draws i) k d).stream.0 60 (omega (arith, lt, (stream_sends_are draws i k d within).stream_is)))
+    All-joined_of (λ s. is_of_stream s ≡ true) (stream_sends draws) 60 (λ i lt k d within. lt-ltb (get_or (stream_sends draws i) k d).stream.0 60 (omega (
+      arith,
+      lt,
+      (stream_sends_are draws i k d within).stream_is,
+    )))
 
 flow_tests : (draws : List ℕ) → All (λ s. is_of_stream s ≡ false) (of_flows draws)
 flow_tests draws =
-    All-joined_of (λ s. is_of_stream s ≡ false) (flow_sends draws) 30 (λ i lt k d within. le-ltb (get_or (flow_sends draws i) k d).stream.0 60 (omega (arith, (flow_sends_are draws i k d within).stream_is)))
+    All-joined_of (λ s. is_of_stream s ≡ false) (flow_sends draws) 30 (λ i lt k d within. le-ltb (get_or (flow_sends draws i) k d).stream.0 60 (omega (
+      arith,
+      (flow_sends_are draws i k d within).stream_is,
+    )))
 
 streams_counted : (draws : List ℕ) → count_by is_of_stream (sends_by_row draws) ≤ 1320
 streams_counted draws =
-    let whole : count_by is_of_stream (sends_by_row draws) ≡ count_by is_of_stream (of_streams draws) + count_by is_of_stream (of_flows draws) = ap (count_by is_of_stream) (rows_send draws) ∙ sum_by-append (λ s. cond (is_of_stream s) 1 0) (of_streams draws) (of_flows draws) in
+    let whole : count_by is_of_stream (sends_by_row draws) ≡ count_by is_of_stream (of_streams draws) + count_by is_of_stream (of_flows draws) = ap (count_by is_of_stream)
+    (rows_send draws) ∙ sum_by-append (λ s. cond (is_of_stream s) 1 0) (of_streams draws) (of_flows draws) in
     omega (arith, whole, count_all is_of_stream (of_streams draws) (stream_tests draws), count_none is_of_stream (of_flows draws) (flow_tests draws), streams_send draws)
 
 flows_counted : (draws : List ℕ) → count_by (λ s. not (is_of_stream s)) (sends_by_row draws) ≡ 11_250
 flows_counted draws =
-    let whole : count_by (λ s. not (is_of_stream s)) (sends_by_row draws) ≡ count_by (λ s. not (is_of_stream s)) (of_streams draws) + count_by (λ s. not (is_of_stream s)) (of_flows draws) = ap (count_by (λ s. not (is_of_stream s))) (rows_send draws) ∙ sum_by-append (λ s. cond (not (is_of_stream s)) 1 0) (of_streams draws) (of_flows draws) in
-    omega (arith, whole, count_none (λ s. not (is_of_stream s)) (of_streams draws) (λ k d within. ap not (stream_tests draws k d within)), count_all (λ s. not (is_of_stream s)) (of_flows draws) (λ k d within. ap not (flow_tests draws k d within)), flows_send draws)
+    let whole : count_by (λ s. not (is_of_stream s)) (sends_by_row draws) ≡ count_by (λ s. not (is_of_stream s)) (of_streams draws) + count_by (λ s. not (is_of_stream s))
+    (of_flows draws) = ap (count_by (λ s. not (is_of_stream s))) (rows_send draws) ∙ sum_by-append (λ s. cond (not (is_of_stream s)) 1 0) (of_streams draws) (of_flows draws) in
+    omega (
+      arith,
+      whole,
+      count_none (λ s. not (is_of_stream s)) (of_streams draws) (λ k d within. ap not (stream_tests draws k d within)),
+      count_all (λ s. not (is_of_stream s))
+          (of_flows draws) (λ k d within. ap not (flow_tests draws k d within)),
+      flows_send draws,
+    )
 
 -- ---- its parts
 
@@ -117,7 +133,16 @@ module _ (draws : List ℕ) (script : Script) (is : IsPlantScript draws script) 
 
   sends_few : length script.sends ≤ 12_570
   sends_few =
-      omega (arith, length-map script.sends (λ (s : SendLine). s.send), length_permutation (sends_by_row draws) sent is.sends.same, ap (λ (ss : List Send). length ss) (rows_send draws), length-append (of_streams draws) (of_flows draws), streams_send draws, flows_send draws)
+      omega (
+        arith,
+        length-map script.sends (λ (s : SendLine). s.send),
+        length_permutation (sends_by_row draws) sent is.sends.same,
+        ap (λ (ss : List Send). length ss)
+            (rows_send draws),
+        length-append (of_streams draws) (of_flows draws),
+        streams_send draws,
+        flows_send draws,
+      )
 
   sends_rise : AllPairs SendsInOrder script.sends
   sends_rise i j d before within =
@@ -128,11 +153,22 @@ module _ (draws : List ℕ) (script : Script) (is : IsPlantScript draws script) 
 
   pub streams_send_few : count_by (λ s. nat_lt s.send.stream.0 60) script.sends ≤ 1320
   streams_send_few =
-      omega (arith, count_map is_of_stream (λ (s : SendLine). s.send) script.sends, sum_by-IsPermutation (λ s. cond (is_of_stream s) 1 0) (sends_by_row draws) sent is.sends.same, streams_counted draws)
+      omega (
+        arith,
+        count_map is_of_stream (λ (s : SendLine). s.send) script.sends,
+        sum_by-IsPermutation (λ s. cond (is_of_stream s) 1 0) (sends_by_row draws) sent is.sends.same,
+        streams_counted draws,
+      )
 
   pub flows_send_all : count_by (λ s. not (nat_lt s.send.stream.0 60)) script.sends ≡ 11_250
   flows_send_all =
-      omega (arith, count_map (λ s. not (is_of_stream s)) (λ (s : SendLine). s.send) script.sends, sum_by-IsPermutation (λ s. cond (not (is_of_stream s)) 1 0) (sends_by_row draws) sent is.sends.same, flows_counted draws)
+      omega (
+        arith,
+        count_map (λ s. not (is_of_stream s)) (λ (s : SendLine). s.send) script.sends,
+        sum_by-IsPermutation (λ s. cond (not (is_of_stream s)) 1 0)
+            (sends_by_row draws) sent is.sends.same,
+        flows_counted draws,
+      )
 
   tick_before : (s : Send) → IsOfRow draws s → s.tick.0 < 9_000_000
   tick_before s of = elim of [ inl p ↦ p.2.tick_is | inr p ↦ p.2.tick_is ]
@@ -158,7 +194,11 @@ module _ (draws : List ℕ) (script : Script) (is : IsPlantScript draws script) 
           | inr p ↦
               let here = p.2 in
               let parts = flow_at draws streams.rows rows p.0 no_row p.1 in
-              let known : slice_get streams.rows (60 + p.0) ≡ Some (get_or streams.rows (60 + p.0) no_row) = slice_get-get_or streams.rows (60 + p.0) no_row (omega (arith, p.1, rows_long draws streams.rows rows)) in
+              let known : slice_get streams.rows (60 + p.0) ≡ Some (get_or streams.rows (60 + p.0) no_row) = slice_get-get_or streams.rows (60 + p.0) no_row (omega (
+                arith,
+                p.1,
+                rows_long draws streams.rows rows,
+              )) in
               record {
                 row = get_or streams.rows (60 + p.0) no_row;
                 known = ap (λ k. slice_get streams.rows k) here.stream_is ∙ known;

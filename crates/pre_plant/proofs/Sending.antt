@@ -109,7 +109,8 @@ unfolding sends_by_row
 all_apart draws =
     AllPairs-append Apart (joined_of 60 (stream_sends draws)) (joined_of 30 (flow_sends draws))
     (AllPairs-joined_of Apart (stream_sends draws) 60 (λ i lt. streams_apart draws i lt)
-    (λ i j before lt. across i j (stream_max draws i) (stream_max draws j) (stream_sends draws i) (stream_sends draws j) (λ e. omega (arith, e, before)) (stream_sends_are draws i) (stream_sends_are draws j)))
+    (λ i j before lt. across i j (stream_max draws i) (stream_max draws j) (stream_sends draws i) (stream_sends draws j) (λ e. omega (arith, e, before)) (stream_sends_are draws i)
+    (stream_sends_are draws j)))
     (AllPairs-joined_of Apart (flow_sends draws) 30 (λ i lt. flows_apart draws i)
     (λ i j before lt. across (60 + i) (60 + j) 1522 1522 (flow_sends draws i) (flow_sends draws j) (λ e. omega (arith, e, before)) (flow_sends_are draws i) (flow_sends_are draws j)))
     (All-joined_of (λ x. All (Apart x) (joined_of 30 (flow_sends draws))) (stream_sends draws) 60
