@@ -25,10 +25,19 @@ const DAMAGES: usize = 20;
 
 const DAMAGE_DRAWS: usize = 280;
 
-/// The least ordinal and the least offset of a damage.
+/// How many ordinals there are to be drawn from.
+const ORDINALS: u64 = 100;
+
+/// The least ordinal of a damage.
 const LEAST_ORDINAL: u64 = 8;
 
+/// The least offset of a damage, and how many there are to be drawn from.
 const LEAST_OFFSET: u64 = 8;
+
+const OFFSETS: u64 = 32;
+
+/// The octets that a damage may have: all but 0.
+const OCTETS: u64 = 255;
 
 /// The sends as the first lines of a script.
 fn send_lines(alloc: Global, sends: &[Send]) -> Result<Items<SendLine>, AllocError>
@@ -52,7 +61,7 @@ fn loss(draws: &[u64], place: usize) -> Loss
     let from = LOSS_DRAWS + 2 * place;
     Loss {
         arc: ArcId(draw(draws, from, ARCS) as u16),
-        ordinal: draw(draws, from + 1, 100),
+        ordinal: draw(draws, from + 1, ORDINALS),
     }
 }
 
@@ -74,11 +83,11 @@ fn damage(alloc: Global, draws: &[u64], place: usize) -> Result<Damage, AllocErr
     ensures { IfOk result (λ d. d ≡ damage draws.now place) }
 {
     let from = DAMAGE_DRAWS + 4 * place;
-    let octet = 1 + draw(draws, from + 3, 255) as u8;
+    let octet = 1 + draw(draws, from + 3, OCTETS) as u8;
     Ok(Damage {
         arc: ArcId(draw(draws, from, ARCS) as u16),
-        ordinal: LEAST_ORDINAL + draw(draws, from + 1, 100),
-        offset: LEAST_OFFSET + draw(draws, from + 2, 32),
+        ordinal: LEAST_ORDINAL + draw(draws, from + 1, ORDINALS),
+        offset: LEAST_OFFSET + draw(draws, from + 2, OFFSETS),
         octets: Items::from_vec([octet].to_vec(alloc)?),
     })
 }

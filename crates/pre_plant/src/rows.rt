@@ -24,6 +24,14 @@ const STREAM_SIZES: u64 = 64;
 /// The octets that a stream may send more for each 1,000,000 ticks.
 const RATE: u64 = 200;
 
+/// The VIDs of the first stream and of the first flow.
+const STREAM_VIDS: u16 = 100;
+
+const FLOW_VIDS: u16 = 200;
+
+/// The stations that a row may go to: all but its own.
+const OTHERS: u64 = 39;
+
 /// The place of the first draw for a flow.
 const FLOW_DRAWS: usize = 120;
 
@@ -34,7 +42,7 @@ fn destination(draws: &[u64], number: usize, row: u16) -> u16
     ensures value { result ≡ destination draws.now number row }
     ensures within { result < 40 }
 {
-    (row + 1 + draw(draws, number, 39) as u16) % STATIONS
+    (row + 1 + draw(draws, number, OTHERS) as u16) % STATIONS
 }
 
 /// The greatest frame of a stream, in octets.
@@ -61,7 +69,7 @@ fn stream_row(alloc: Global, draws: &[u64], stream: u16) -> Result<Row, AllocErr
     };
     Ok(Row {
         name: numbered(alloc, "e", stream)?,
-        vid: 100 + stream,
+        vid: STREAM_VIDS + stream,
         prio: Prio(4 + (stream % 4) as u8),
         route: route_between(alloc, from, to)?,
         arcs: arcs_between(alloc, from, to)?,
@@ -79,7 +87,7 @@ fn flow_row(alloc: Global, draws: &[u64], flow: u16) -> Result<Row, AllocError>
     let to = destination(draws, FLOW_DRAWS + usize::from(flow), flow);
     Ok(Row {
         name: numbered(alloc, "f", flow)?,
-        vid: 200 + flow,
+        vid: FLOW_VIDS + flow,
         prio: Prio((flow % 4) as u8),
         route: route_between(alloc, from, to)?,
         arcs: arcs_between(alloc, from, to)?,
