@@ -1,3 +1,15 @@
 pub mod Histories
 pub mod NameWords
 pub mod Lines
+pub mod Spaces
+pub mod Fronts
+pub mod Inverse
+pub mod Places
+pub mod Spelling
+pub mod Told
+pub mod Back
+pub mod Known
+pub mod Faulty
+pub mod TakenUp
+pub mod Summed
+pub mod Endings

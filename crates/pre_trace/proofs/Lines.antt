@@ -32,7 +32,7 @@ pub record TextLaws : Type 0 where
   pub octets_back : (octets : List ℕ) (room : ℕ) → AreOctets octets → 0 < length octets → length octets ≤ room → pairs_within room (hex octets) ≡ Some octets
 
 -- the words of an event's line
-abbrev first_word : Network → PlainEvent → List ℕ
+abbrev pub first_word : Network → PlainEvent → List ℕ
 first_word net (PlainEvent.set tick arc value) = decimal tick
 first_word net (PlainEvent.begin b) = decimal b.tick
 first_word net (PlainEvent.ended e) = decimal e.tick
@@ -44,7 +44,7 @@ first_word net (PlainEvent.dropped e) = decimal e.tick
 first_word net (PlainEvent.count arc c) = codes "count"
 first_word net (PlainEvent.end e) = decimal e.until
 
-abbrev more_words : Network → PlainEvent → List (List ℕ)
+abbrev pub more_words : Network → PlainEvent → List (List ℕ)
 more_words net (PlainEvent.set tick arc value) = codes "set" ∷ arc_name net arc ∷ setting_word value ∷ []
 more_words net (PlainEvent.begin b) = codes "begin" ∷ arc_name net b.arc ∷ decimal b.ord ∷ kind_word b.kind ∷ what_word b.what ∷ decimal b.from ∷ []
 more_words net (PlainEvent.ended e) = codes "ended" ∷ arc_name net e.arc ∷ decimal e.ord ∷ decimal e.size ∷ hex e.check ∷ []
@@ -56,7 +56,7 @@ more_words net (PlainEvent.dropped e) = codes "dropped" ∷ arc_name net e.arc �
 more_words net (PlainEvent.count arc c) = arc_name net arc ∷ decimal c.err ∷ decimal c.smd ∷ decimal c.ok ∷ decimal c.rx ∷ decimal c.tx ∷ []
 more_words net (PlainEvent.end e) = codes "end" ∷ decimal e.sent ∷ decimal e.delivered ∷ decimal e.dropped ∷ []
 
-line_words : (net : Network) (e : PlainEvent) → line net e ≡ line_of (first_word net e) (more_words net e)
+pub line_words : (net : Network) (e : PlainEvent) → line net e ≡ line_of (first_word net e) (more_words net e)
 line_words net (PlainEvent.set tick arc value) = refl
 line_words net (PlainEvent.begin b) = refl
 line_words net (PlainEvent.ended e) = refl
@@ -207,7 +207,7 @@ module _ (laws : TextLaws) where
   what_is_word what.Nothing u = word_of (codes "-") refl
 
   module _ (net : Network) where
-    first_is_word : (e : PlainEvent) → IsWritten net e → IsWord (first_word net e)
+    pub first_is_word : (e : PlainEvent) → IsWritten net e → IsWord (first_word net e)
     unfolding is_word
     first_is_word (PlainEvent.count arc c) p = word_of (codes "count") refl
     first_is_word (PlainEvent.set tick arc value) p = laws.number_word tick p.0
@@ -220,7 +220,7 @@ module _ (laws : TextLaws) where
     first_is_word (PlainEvent.dropped e) p = laws.number_word e.tick p.0
     first_is_word (PlainEvent.end e) p = laws.number_word e.until p.0
 
-    more_are_words : (e : PlainEvent) → IsWritten net e → AreWords (more_words net e)
+    pub more_are_words : (e : PlainEvent) → IsWritten net e → AreWords (more_words net e)
     unfolding is_word
     more_are_words (PlainEvent.set tick arc value) p = (word_of (codes "set") refl, (arc_word net arc p.1, (setting_is_word value, tt)))
     more_are_words (PlainEvent.begin b) p =

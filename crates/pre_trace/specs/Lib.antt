@@ -1,2 +1,9 @@
 pub mod Text
 pub mod Watching
+pub mod Values
+pub mod Saying
+pub mod Reading
+pub mod LineFaults
+pub mod Figures
+pub mod Sums
+pub mod SummaryText

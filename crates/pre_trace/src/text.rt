@@ -6,7 +6,7 @@ ghost use Rattle.pre_base.specs.Sinks.{TakesAll};
 ghost use Rattle.pre_text.specs.Spelled.{spelled};
 ghost use Rattle.pre_topo.specs.Named.{node_name, arc_name};
 ghost use Rattle.pre_history.specs.Plain.{plain, IsKind, IsEvent};
-ghost use Rattle.pre_history.specs.Names.{HasArc, HasNode, IsOf};
+ghost use Rattle.pre_history.specs.Names.{HasNode, IsOf};
 ghost use Rattle.pre_trace.specs.Text.{kind_word, what_word, setting_word, outcome_word, yes_word, line};
 
 use crate::{Event, Outcome, What};
@@ -23,12 +23,13 @@ fn node_of(net: &Network, node: NodeId) -> Word<'_, 'static>
     Word::Octets(net.node_name(node))
 }
 
-fn arc_of(net: &Network, arc: ArcId) -> Word<'_, 'static>
-    requires { HasArc net.now arc.0 }
+pub(crate) fn arc_of(net: &Network, arc: ArcId) -> Word<'_, 'static>
     ensures { spelled result ≡ arc_name net.now arc.0 }
 {
-    let arc = &net.arcs.as_slice()[arc.0 as usize];
-    Word::Ends(net.node_name(arc.from), net.node_name(arc.to))
+    match net.arcs.as_slice().get(arc.0 as usize) {
+        Some(arc) => Word::Ends(net.node_name(arc.from), net.node_name(arc.to)),
+        None => Word::Octets(b""),
+    }
 }
 
 fn setting_of(value: Setting) -> Word<'static, 'static>

@@ -1,0 +1,16 @@
+pub mod ListLaws
+pub mod Drawing
+pub mod Ticks
+pub mod Naming
+pub mod Places
+pub mod PlantNetworks
+pub mod Ways
+pub mod Pushes
+pub mod Orders
+pub mod Sending
+pub mod Counting
+pub mod RowRules
+pub mod CurveRules
+pub mod ScriptRules
+pub mod OnePlant
+pub mod PlantRules

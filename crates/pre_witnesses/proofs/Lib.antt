@@ -1,0 +1,10 @@
+pub mod Steps
+pub mod Occupation
+pub mod Receptions
+pub mod PairCut
+pub mod CutFrame
+pub mod CutFrameLegal
+pub mod NegotiatingPair
+pub mod VerifiedLink
+pub mod VerifiedLinkLegal
+pub mod Scenarios

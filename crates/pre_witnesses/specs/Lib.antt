@@ -1,0 +1,2 @@
+pub mod CutFrame
+pub mod VerifiedLink
