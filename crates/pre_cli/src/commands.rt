@@ -4,9 +4,14 @@ ghost use Rattle.pre_cli.specs.Commands.{command_asked, command_of};
 /// What the words ask for, with the words behind the command's name.
 pub(crate) enum Asked<'a> {
     /// `certify NET STREAMS`
-    Certifies { net: &'a str, streams: &'a str },
+    Certifies {
+        net: &'a str,
+        streams: &'a str,
+    },
     /// `mpackets FILE`
-    Lists { file: &'a str },
+    Lists {
+        file: &'a str,
+    },
     /// `judge NET STREAMS CERT`
     Judges {
         net: &'a str,
