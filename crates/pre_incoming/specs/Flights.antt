@@ -40,7 +40,8 @@ pub record TakesOctets (w : Wire) (size : ℕ) : Type 0 where
   pub octets : length w.octets.items + size ≤ w.octets.capacity
   pub flights : length w.flights.items < w.flights.capacity
 
--- It takes what leaves within the delay at so many ticks for an octet, and a longest mPacket.
+-- It takes what leaves within the delay at so many ticks for an octet, and a longest mPacket, and has no more on it.
 pub record HasRoom (delay cost : ℕ) (w : Wire) : Type 0 where
   pub octets : w.octets.capacity ≡ delay / cost + GREATEST_PACKET
+  pub taken : length w.octets.items ≤ w.octets.capacity
   pub flights : w.flights.capacity ≡ delay / (84 * cost) + 1

@@ -54,3 +54,4 @@ pub mod SetsParts
 pub mod ClosingParts
 pub mod RestingTicks
 pub mod RestingLanes
+pub mod Owning

@@ -6,6 +6,7 @@ pub mod Stands
 pub mod Lanes
 pub mod Views
 pub mod Steps
+pub mod Own
 pub mod Told
 pub mod Sends
 pub mod Parts

@@ -57,10 +57,11 @@ impl<'a> Model for Sim<'a> {
 
 impl<'a> Sim<'a> {
     ghost use Rattle.std.specs.Prelude.{[]};
+    ghost use Rattle.pre_sim.specs.Own.{HoldsItsOwn};
     ghost use Rattle.pre_sim.specs.Views.{HasTold};
     ghost use Rattle.pre_sim.specs.Steps.{is_more, StepTells, StepMoves, StepCause};
 
-    /// A run that is about to begin, with all the memory that it ever takes.
+    /// A run that is about to begin, with all the memory that it ever takes: the slots and the octets of wires that the network says.
     pub fn make(
         alloc: Global,
         net: &'a Network,
@@ -68,7 +69,8 @@ impl<'a> Sim<'a> {
         script: &'a Script,
     ) -> Result<Sim<'a>, AllocError>
         requires { AllFit net.now streams.now script.now }
-        ensures { IfOk result (λ s. (s.run ≡ record { net = net.now; streams = streams.now; script = script.now }) × (s.next ≡ 0) × (s.going ≡ true) × HasTold s []) }
+        ensures begins { IfOk result (λ s. (s.run ≡ record { net = net.now; streams = streams.now; script = script.now }) × (s.next ≡ 0) × (s.going ≡ true) × HasTold s []) }
+        ensures own { IfOk result (λ s. HoldsItsOwn net.now s.progress) }
     {
         Ok(Sim {
             plan: Plan {
@@ -106,6 +108,7 @@ impl<'a> Sim<'a> {
         ensures kept { self.new.run ≡ self.old.run }
         ensures cause { StepCause result (W.faults watcher.old) (W.faults watcher.new) }
         ensures same { W.same watcher.old watcher.new }
+        ensures own { self.new.going ≡ true → HoldsItsOwn self.new.run.net self.new.progress }
     {
         let now = self.next;
         match advance(&self.plan, now, &mut self.progress, watcher) {

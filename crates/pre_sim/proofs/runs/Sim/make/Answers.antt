@@ -10,10 +10,11 @@ use Rattle.pre_sim.specs.Views.{SimView}
 use Rattle.pre_sim.proofs.Counted.{counted_none}
 use Rattle.pre_sim.proofs.Keeping.{keep_none}
 use Rattle.pre_sim.proofs.Beginning.{has_told_nothing, reaches_nothing, idle_ready}
+use Rattle.pre_sim.proofs.Owning.{holds_its_own}
 use Rattle.pre_sim.proofs.runs.Sim.make.Goals as goal
 
-pub returns : goal.returns
-returns c =
+pub returns-clause-begins : goal.returns-clause-begins
+returns-clause-begins c =
     let new : SimView = record {
       run = record { net = c.args.net.now; streams = c.args.streams.now; script = c.args.script.now };
       progress = record { lanes = c.in_ok-idle_lanes.field-0; relay = c.in_ok-make.field-0; store = c.in_ok-make-2.field-0; set = 0; sent = 0; delivered = 0; dropped = 0 };
@@ -51,3 +52,11 @@ invariant_of-result c =
         ([], reaches_nothing s refl refl refl refl refl (search rules) c.in_ok-make.ensures.stands),
       ),
     )
+
+pub returns-clause-own : goal.returns-clause-own
+returns-clause-own c =
+    let w : Scenario = record { net = c.args.net.now; streams = c.args.streams.now; script = c.args.script.now } in
+    let p : Progress = record { lanes = c.in_ok-idle_lanes.field-0; relay = c.in_ok-make.field-0; store = c.in_ok-make-2.field-0; set = 0; sent = 0; delivered = 0; dropped = 0 } in
+    let before = invariant_of-result c in
+    let at = before.3 refl in
+    holds_its_own w 0 0 0 at.3.0 p before.1 at.1 at.3.1

@@ -2,6 +2,7 @@ use Rattle.std.proofs.Common.{rules, refl, sym, subst, arith, ◌+◌, ◌≤◌
 use Rattle.pre_sim.specs.Parts.{TickPart, AdvancePart, scenario_of}
 use Rattle.pre_sim.specs.Views.{SimView}
 use Rattle.pre_sim.proofs.StepParts.{tells_more, tells_ended, stops, finds_alias, same_alias, not_last, kept_later, within_later, ready_later}
+use Rattle.pre_sim.proofs.Owning.{holds_its_own}
 use Rattle.pre_sim.proofs.RestingTicks.{rests_to}
 use Rattle.pre_sim.proofs.runs.Sim.step.Goals as goal
 
@@ -64,3 +65,11 @@ invariant_of-self-in-Ok-false g c =
         (h, rests_to w before.0 h p (search rules) next now later c.next_due-self-inside.ensures.rests (tick reached.0 reached.1)),
       ),
     )
+
+pub returns-in-Ok-false-clause-own : goal.returns-in-Ok-false-clause-own
+returns-in-Ok-false-clause-own g c = λ going.
+    let w = scenario_of c.self.inside.plan in
+    let now = c.next_due-self-inside.result.0 in
+    let after = invariant_of-self-in-Ok-false g c in
+    let at = after.3 (search rules) in
+    holds_its_own w now now 0 at.3.0 c.advance.new.progress after.1 at.1 at.3.1
