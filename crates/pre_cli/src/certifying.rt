@@ -174,7 +174,7 @@ pub(crate) fn streams_named<H: Shelf>(
     }
 }
 
-fn unfit_status(cause: Unfit) -> Status
+pub(crate) fn unfit_status(cause: Unfit) -> Status
     ensures { result ≡ certifying.unfit_status cause }
 {
     match cause {

@@ -4,6 +4,7 @@ ghost use Rattle.pre_cli.specs.Commands.{CauseOf, LeavesOf};
 use crate::Status;
 use crate::certifying::certify_files;
 use crate::commands::{Asked, command_of};
+use crate::drilling::drill;
 use crate::judging::{judge_files, migrate_files};
 use crate::listings::list_file;
 use crate::replays::replay_files;
@@ -13,16 +14,17 @@ use std::alloc::Global;
 /// Does the command that the words say, over the shelf's files, and writes what it gives to the sink. `certify NET STREAMS`
 /// writes the least certificate of the streams over the network; `judge NET STREAMS CERT` writes `accepted` where the
 /// certificate is good for them, and `migrate NET STREAMS CERT` writes it anew; `replay NET STREAMS CERT SCRIPT` runs the
-/// script over these, where the certificate is good and the sends keep to their curves, and writes the trace; and
-/// `mpackets FILE` writes a line for each mPacket of the file, with what it gives to one receiver. In the place of NET or
-/// STREAMS the word `pair` stands for a built-in text.
+/// script over these, where the certificate is good and the sends keep to their curves, and writes the trace; `mpackets FILE`
+/// writes a line for each mPacket of the file, with what it gives to one receiver; and `drill N` makes the large plant of
+/// the number N, certifies it, runs its script and writes the summary of the run. In the place of NET or STREAMS the word
+/// `pair` stands for a built-in text.
 ///
 /// Each answer has its cause, and no two causes hold together; only want of memory is free. Files are read and tested one
 /// by one, in the order of the words, before anything is written. Where the answer is Done, the sink took the whole of the
 /// text and nothing else, flushed. Of `replay` that is the text of a legal history of what the four texts say to run, of which
 /// the headline holds: under a good certificate express frames arrive within their printed bounds, queues stay within their
 /// printed sizes, each delivery is a frame that was sent, octet for octet, and none is delivered twice. Of `mpackets` it is
-/// the listing, of `certify` the text of a certificate that is good and least, and of `migrate` that of the one that was
+/// the listing, of `drill` the summary, of `certify` the text of a certificate that is good and least, and of `migrate` that of the one that was
 /// read. On Alias it took the text of the history before that arrival, flushed. Where writing failed, or memory ran out in a
 /// run, the sink took a front of such a text, and else nothing.
 pub fn preempt<H: Shelf, S: Sink>(
@@ -55,6 +57,7 @@ pub fn preempt<H: Shelf, S: Sink>(
             certificate,
             script,
         } => replay_files(alloc, net, streams, certificate, script, shelf, sink),
+        Asked::Drills { number } => drill(alloc, number, sink),
         Asked::Unknown => Status::Words,
     }
 }

@@ -29,7 +29,7 @@ use pre_trace::{TraceWatcher, Watcher};
 use std::alloc::Global;
 
 /// Does all the steps of a run: the last one's answer.
-fn run_on<W: Watcher>(sim: &mut Sim, watcher: &mut W) -> Step
+pub(crate) fn run_on<W: Watcher>(sim: &mut Sim, watcher: &mut W) -> Step
     requires { sim.old.going ≡ true }
     ensures last { result ≢ Step.More }
     ensures told { StepTells sim.old result sim.new (W.took watcher.old) (W.took watcher.new) (W.torn watcher.new) }
@@ -209,7 +209,7 @@ fn input_named<H: Shelf>(
 }
 
 /// A script that keeps to the curves is a run, for which a good certificate keeps its word.
-fn makes_a_run(net: &Network, streams: &Streams, script: &Script)
+pub(crate) fn makes_a_run(net: &Network, streams: &Streams, script: &Script)
     requires fits { rows.Fits net.now streams.now }
     requires lines { lines.Fits net.now streams.now script.now }
     requires curves { CurvesHold streams.now.rows script.now.sends }
