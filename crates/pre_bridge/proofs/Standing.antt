@@ -1,5 +1,5 @@
 -- What a call changes of the calls for which a relay stands.
-use Rattle.std.proofs.Common.{◌≡◌, ℕ, suc, ◌+◌, ◌*◌, ◌/◌, ◌<◌, ◌≤◌, ◌⊎◌, inl, inr, true, false, cond, leb, ltb, eqb, List, [], ◌∷◌, ◌++◌, length, map, set, Option, Some, None, refl, sym, ap, ap₂, subst, ◌∙◌, arith, All, AllPairs, drop, get_or, append-nil, length-set}
+use Rattle.std.proofs.Common.{length-drop, length-append, ◌≡◌, ℕ, suc, ◌+◌, ◌*◌, ◌/◌, ◌<◌, ◌≤◌, ◌⊎◌, inl, inr, true, false, cond, leb, ltb, eqb, List, [], ◌∷◌, ◌++◌, length, map, set, Option, Some, None, refl, sym, ap, ap₂, subst, ◌∙◌, arith, All, AllPairs, drop, get_or, append-nil, length-set}
 use Rattle.std.specs.Prelude.{slice_get, position, is_some}
 use Rattle.std.specs.List.{flat_map}
 use Rattle.std.specs.Option.{option_map, option_map_or, option_and_then}
@@ -91,7 +91,7 @@ Stands-changed old new place ingress changed net streams calls more ch s latest 
     order_at i other (inl eq) f = subst (IsInOrder new.latest.0) (is_changed i other eq f) ch.order
     order_at i other (inr ne) f =
         let was = s.order i other (sym (other_at i ne) ∙ f) in
-        record { ordered = was.ordered; recent = All-weaker (λ (w : Waiting). w.due.0 ≤ old.latest.0 + other.latency) (λ (w : Waiting). w.due.0 ≤ new.latest.0 + other.latency) (λ w le. omega (arith, le, ch.later)) other.queue.items was.recent }
+        record { ordered = was.ordered; recent = All-weaker (λ (w : Waiting). w.due.0 ≤ old.latest.0 + other.latency) (λ (w : Waiting). w.due.0 ≤ new.latest.0 + other.latency) (λ w le. omega (arith, le, ch.later)) other.queue.items was.recent; within = was.within }
 
     queue_of : (i : ℕ) → (i ≡ place) ⊎ (i ≡ place → ⊥) → map waiting (of_arc i (inside net streams more)) ≡ queue_at new.ingresses.items i
     queue_of i (inl eq) = subst (λ j. map waiting (of_arc j (inside net streams more)) ≡ queue_at new.ingresses.items j) (sym eq) (here ∙ sym (queue_is new.ingresses.items place changed same))
@@ -121,8 +121,9 @@ of_arc-push : (i : ℕ) (xs : List Entry) (x : Entry) → of_arc i (xs ++ x ∷ 
 of_arc-push i xs x = filter-append (λ (y : Entry). eqb y.arc i) xs (x ∷ [])
 
 pub in_order-push : (latest t : ℕ) (ingress changed : Ingress) (w : Waiting) → IsInOrder latest ingress → latest ≤ t → w.due.0 ≡ t + ingress.latency → changed.latency ≡ ingress.latency → changed.queue.items ≡ ingress.queue.items ++ w ∷ []
-    → IsInOrder t changed
-in_order-push latest t ingress changed w order le due latency items = record {
+    → changed.queue.capacity ≡ ingress.queue.capacity → length ingress.queue.items < ingress.queue.capacity → IsInOrder t changed
+in_order-push latest t ingress changed w order le due latency items capacity room = record {
+  within = omega (arith, ap length items, length-append ingress.queue.items (w ∷ []), capacity, room);
   ordered = subst (AllPairs (λ (u v : Waiting). u.due.0 ≤ v.due.0)) (sym items)
       (all_pairs_push (λ (u v : Waiting). u.due.0 ≤ v.due.0) ingress.queue.items w order.ordered (λ k d lt. let by : (get_or ingress.queue.items k d).due.0 ≤ latest + ingress.latency = order.recent k d lt in omega arith));
   recent = subst (All (λ (v : Waiting). v.due.0 ≤ t + changed.latency)) (sym items)
@@ -146,8 +147,9 @@ Stands-delivered old new net streams calls t i frame next w ingress changed ch s
 
 -- ---- one that is taken
 
-pub in_order-drop : (latest : ℕ) (ingress changed : Ingress) → IsInOrder latest ingress → changed.latency ≡ ingress.latency → changed.queue.items ≡ drop 1 ingress.queue.items → IsInOrder latest changed
-in_order-drop latest ingress changed order latency items = record {
+pub in_order-drop : (latest : ℕ) (ingress changed : Ingress) → IsInOrder latest ingress → changed.latency ≡ ingress.latency → changed.queue.items ≡ drop 1 ingress.queue.items → changed.queue.capacity ≡ ingress.queue.capacity → IsInOrder latest changed
+in_order-drop latest ingress changed order latency items capacity = record {
+  within = omega (arith, ap length items, length-drop 1 ingress.queue.items, capacity, order.within);
   ordered = subst (AllPairs (λ (u v : Waiting). u.due.0 ≤ v.due.0)) (sym items) (rest ingress.queue.items order.ordered);
   recent = subst (All (λ (v : Waiting). v.due.0 ≤ latest + changed.latency)) (sym items)
       (All-drop (λ (v : Waiting). v.due.0 ≤ latest + changed.latency) 1 ingress.queue.items
@@ -231,18 +233,18 @@ take_some old new net streams calls t place ingress changed w s e read front is 
       node = ap (λ (n : Ingress). n.node) is;
       latency = kept_latency;
       capacity = ap (λ (n : Ingress). n.queue.capacity) is;
-      order = subst (λ n. IsInOrder n changed) (sym latest) (in_order-drop old.latest.0 ingress changed (s.order place ingress here.0) kept_latency items);
+      order = subst (λ n. IsInOrder n changed) (sym latest) (in_order-drop old.latest.0 ingress changed (s.order place ingress here.0) kept_latency items (ap (λ (n : Ingress). n.queue.capacity) is));
     } in
     (Stands-taken old new net streams calls t place ingress changed w ch s latest items out, out.given)
 
 -- ---- where a frame is kept
 
 pub deliver_some : (old new : Relay) (net : Network) (streams : Streams) (calls : List Call) (t i : ℕ) (frame : FrameRef) (next : ArcId) (w : Waiting) (ingress changed : Ingress) → Stands old net streams calls
-    → slice_get old.ingresses.items i ≡ Some ingress → old.latest.0 ≤ t → arc_among old.hops.items ingress.node frame.vid ≡ Some next
+    → slice_get old.ingresses.items i ≡ Some ingress → length ingress.queue.items < ingress.queue.capacity → old.latest.0 ≤ t → arc_among old.hops.items ingress.node frame.vid ≡ Some next
     → w ≡ record { due = record { 0 = t + ingress.latency }; next = next; frame = frame }
     → changed ≡ record ingress { queue = buffer (ingress.queue.items ++ w ∷ []) ingress.queue.capacity } → new.hops.items ≡ old.hops.items → new.ingresses.items ≡ set old.ingresses.items i changed → new.latest.0 ≡ t
     → Stands new net streams (calls ++ delivered t i frame ∷ [])
-deliver_some old new net streams calls t i frame next w ingress changed s was le goes w_is is hops now latest =
+deliver_some old new net streams calls t i frame next w ingress changed s was room le goes w_is is hops now latest =
     let items = ap (λ (n : Ingress). n.queue.items) is in
     let kept_latency = ap (λ (n : Ingress). n.latency) is in
     let ch : Changes old new i ingress changed = record {
@@ -253,7 +255,7 @@ deliver_some old new net streams calls t i frame next w ingress changed s was le
       node = ap (λ (n : Ingress). n.node) is;
       latency = kept_latency;
       capacity = ap (λ (n : Ingress). n.queue.capacity) is;
-      order = subst (λ n. IsInOrder n changed) (sym latest) (in_order-push old.latest.0 t ingress changed w (s.order i ingress was) le (ap (λ (v : Waiting). v.due.0) w_is) kept_latency items);
+      order = subst (λ n. IsInOrder n changed) (sym latest) (in_order-push old.latest.0 t ingress changed w (s.order i ingress was) le (ap (λ (v : Waiting). v.due.0) w_is) kept_latency items (ap (λ (n : Ingress). n.queue.capacity) is) room);
     } in
     Stands-delivered old new net streams calls t i frame next w ingress changed ch s latest goes w_is items
 
@@ -283,6 +285,7 @@ Stands-made relay net streams hops is latest = record {
     fresh : (i : ℕ) (n : Ingress) → slice_get relay.ingresses.items i ≡ Some n → IsInOrder relay.latest.0 n
     fresh i n f = record {
       ordered = subst (AllPairs (λ (u v : Waiting). u.due.0 ≤ v.due.0)) (sym (from i n f)) (λ j k d less within. absurd (omega (arith, within)));
+      within = omega (arith, ap length (from i n f));
       recent = subst (All (λ (w : Waiting). w.due.0 ≤ relay.latest.0 + n.latency)) (sym (from i n f)) (All-nil (λ (w : Waiting). w.due.0 ≤ relay.latest.0 + n.latency));
     }
 
@@ -314,3 +317,11 @@ space_is relay net streams calls arc s = by (slice_get relay.ingresses.items arc
         ap length (sym (s.queues arc ∙ queue_is relay.ingresses.items arc ingress e)) ∙ length-map (of_arc arc (inside net streams calls)) waiting in
         ap (λ (o : Option Ingress). option_map_or (λ (n : Ingress). ltb (length n.queue.items) n.queue.capacity) o false) e
         ∙ ap₂ ltb long (is.capacity ∙ sym (ap (λ (o : Option Arc). option_map_or (λ (a : Arc). latency_at net.nodes a.to.0 / (84 * a.cost) + 1) o 0) found.1))
+
+-- No more are inside that arrived by an arc than may be.
+pub few_is : (relay : Relay) (net : Network) (streams : Streams) (calls : List Call) (arc : ℕ) (a : Arc) → Stands relay net streams calls → slice_get net.arcs arc ≡ Some a → length (of_arc arc (inside net streams calls)) ≤ latency_at net.nodes a.to.0 / (84 * a.cost) + 1
+few_is relay net streams calls arc a s at =
+    let found = slice_get-some relay.ingresses.items arc (omega (arith, slice_get_within net.arcs arc a at, s.count)) in
+    let is = s.each arc a found.0 at found.1 in
+    let long = ap length (s.queues arc ∙ queue_is relay.ingresses.items arc found.0 found.1) in
+    omega (arith, long, length-map (of_arc arc (inside net streams calls)) waiting, (s.order arc found.0 found.1).within, is.capacity)

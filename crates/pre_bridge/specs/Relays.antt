@@ -26,10 +26,11 @@ pub record IsIngress (net : Network) (a : Arc) (ingress : Ingress) : Type 0 wher
   pub latency : ingress.latency ≡ latency_at net.nodes a.to.0
   pub capacity : ingress.queue.capacity ≡ latency_at net.nodes a.to.0 / (84 * a.cost) + 1
 
--- The oldest is due first, and none later than the latency after the last delivery.
+-- The oldest is due first, and none later than the latency after the last delivery; no more wait than may.
 pub record IsInOrder (latest : ℕ) (ingress : Ingress) : Type 0 where
   pub ordered : AllPairs (λ v w. v.due.0 ≤ w.due.0) ingress.queue.items
   pub recent : All (λ w. w.due.0 ≤ latest + ingress.latency) ingress.queue.items
+  pub within : length ingress.queue.items ≤ ingress.queue.capacity
 
 pub record Stands (relay : Relay) (net : Network) (streams : Streams) (calls : List Call) : Type 0 where
   pub hops : relay.hops.items ≡ flat_map hops_of streams.rows

@@ -1,14 +1,16 @@
-ghost use Rattle.std.specs.Prelude.{◌≡◌, ◌<◌, ◌+◌, ◌↔◌, ℕ, List, [], ◌∷◌, ◌++◌, length, filter, replicate, not, slice_get, All, None, Some};
+ghost use Rattle.std.specs.Prelude.{◌≡◌, ◌<◌, ◌≤◌, ◌+◌, ◌*◌, ◌/◌, ◌↔◌, ℕ, List, [], ◌∷◌, ◌++◌, length, filter, replicate, not, slice_get, All, None, Some};
 ghost use Rattle.pre_base.specs.declared.numbers.NodeId.{NodeId};
 ghost use Rattle.pre_base.specs.declared.numbers.ArcId.{ArcId};
 ghost use Rattle.pre_topo.specs.declared.network.Network.{Network};
+ghost use Rattle.pre_topo.specs.declared.arcs.Arc.{Arc};
+ghost use Rattle.pre_topo.specs.Arcs.{latency_at};
 ghost use Rattle.pre_streams.specs.declared.rows.Row.{Row};
 ghost use Rattle.pre_streams.specs.declared.rows.Streams.{Streams};
 ghost use Rattle.pre_streams.specs.Hops.{VidTakesArc};
 ghost use Rattle.pre_streams.specs.Fits.{Fits};
 ghost use Rattle.pre_bridge.specs.declared.relays.Relay.{Relay};
 ghost use Rattle.pre_bridge.specs.Table.{next_arc, onward};
-ghost use Rattle.pre_bridge.specs.Inside.{Call, Entry, taken, inside, leaving, is_due, last_kept, has_room};
+ghost use Rattle.pre_bridge.specs.Inside.{Call, Entry, taken, inside, leaving, is_due, last_kept, has_room, of_arc};
 ghost use Rattle.pre_bridge.specs.Turns.{IsTurn, dues};
 ghost use Rattle.pre_bridge.specs.Relays.{Stands, has_space};
 
@@ -20,6 +22,8 @@ pub fn calls_law()
         → relay.latest.0 ≡ last_kept net streams calls }
     ensures space { (relay : Relay) (net : Network) (streams : Streams) (calls : List Call) (arc : ℕ) → Stands relay net streams calls
         → has_space relay arc ≡ has_room net streams calls arc }
+    ensures few { (relay : Relay) (net : Network) (streams : Streams) (calls : List Call) (arc : ℕ) (a : Arc) → Stands relay net streams calls → slice_get net.arcs arc ≡ Some a
+        → length (of_arc arc (inside net streams calls)) ≤ latency_at net.nodes a.to.0 / (84 * a.cost) + 1 }
 {}
 
 /// A frame comes out of the first take at or after the end of its latency at which no due frame of a

@@ -13,7 +13,7 @@ use Rattle.pre_bridge.specs.Inside.{Entry, inside, of_arc}
 use Rattle.pre_sim.specs.declared.lanes.Lane.{Lane}
 use Rattle.pre_sim.specs.Keeps.{Store, Keeps, LaneKeeps, TakesIn}
 use Rattle.pre_sim.specs.Stands.{LanesStand}
-use Rattle.pre_sim.specs.Parts.{ArrivalPart, ArrivalsPart, ArrivalsAlias, Before, LaneAlias, LaneFront, LaneReached, LanesFront, LanesReached, LegalAt, its_place}
+use Rattle.pre_sim.specs.Parts.{ArrivalPart, ArrivalsPart, ArrivalsAlias, Before, LaneAlias, LaneFront, LanesFront, LegalAt, its_place}
 use Rattle.pre_sim.proofs.Rows.{lane_more, front_more, lanes_begin}
 
 -- frames came into bridges, and more behind them
@@ -51,10 +51,6 @@ module _ (w : Scenario) (t n m d : ℕ) (store store' store'' : Store) (relay re
       let first = so_far.1.legal h entries legal stand in
       record { legal = first.0; hears = tt; stands = first.1 n lane here }
 
-  -- some history leads to it
-  pub arrival_reached : LanesReached w t (1 + length w.net.arcs) old → LaneReached w t (Phase.arrivals n) n None lane
-  arrival_reached (h, entries, legal, stand) = (h ++ es, of_arc n (entries ++ so_far.0), ready h entries legal stand)
-
   -- an alias on the arc, behind the arrivals of the others
   pub alias_more : (a i : ℕ) → LaneAlias w t (Phase.arrivals n) n None lane a i fs → ArrivalsAlias w t old a i (es ++ fs)
   alias_more a i (own, none, says) h entries legal stand =
@@ -65,4 +61,4 @@ module _ (w : Scenario) (t n m d : ℕ) (store store' store'' : Store) (relay re
 
   -- what the lane keeps
   pub lane_kept : (entries : List Entry) → Keeps w store old entries [] → LaneKeeps w store' n lane
-  lane_kept entries kept = (so_far.1.keeps entries kept).each_lane n lane here
+  lane_kept entries kept = (so_far.1.keeps entries kept).apart.each_lane n lane here

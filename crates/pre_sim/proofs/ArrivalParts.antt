@@ -39,7 +39,7 @@ use Rattle.pre_sim.specs.Keeps.{Store, TakesIn}
 use Rattle.pre_sim.specs.Reach.{AllFit}
 use Rattle.pre_sim.specs.Stands.{Onward, onward, passes}
 use Rattle.pre_sim.specs.Parts.{After, ArrivalPart, Before, LaneAlias, LaneFront, LanePart, LaneReached, LegalAt}
-use Rattle.pre_sim.proofs.ArrivalRoutes.{GoAlong, goes_onward, still_over, stays_for}
+use Rattle.pre_sim.proofs.ArrivalRoutes.{GoAlong, goes_onward, still_over, at_bridge, stays_for}
 use Rattle.pre_sim.proofs.Keeping.{keep_lane, keep_arrived}
 use Rattle.pre_sim.proofs.FrameSizes.{routed}
 use Rattle.pre_sim.proofs.Landings.{AdvertLaw, lane_with, landed_as, done_none, done_one}
@@ -283,7 +283,7 @@ module _ (w : Scenario) (t a : ℕ) (a_lt : a < length w.net.arcs) (adverts : Ad
       here = (refl, tt);
       goes = λ h items before. after_one (it_arrives ∷ []) (entry b slot ∷ []) h items before (events_are h (Some b) goes_on) (hands_it b slot goes_on h items before);
       keeps = keep_arrived w a store store' old new f slot (entry b slot) refl refl user.known long_enough stored refl
-          (still_over w fit along f.0 a b user.known user.over goes_on);
+          (at_bridge w fit along f.0 a b user.known user.over goes_on) (still_over w fit along f.0 a b user.known user.over goes_on);
     }
 
     one_inside : (calls : List Call) (b : ArcId) (slot : ℕ) → onto ≡ Some b

@@ -1,5 +1,5 @@
 -- Where a frame that arrives goes on from the arc, by the bridge's table.
-use Rattle.std.proofs.Common.{ℕ, zero, suc, ◌≡◌, ◌==◌, ◌+◌, ◌<◌, true, false, List, [], ◌∷◌, length, map, refl, sym, ◌∙◌, ap, inl, inr, arith, Option, Some}
+use Rattle.std.proofs.Common.{ℕ, zero, suc, ◌≡◌, ◌==◌, ◌+◌, ◌<◌, true, false, List, [], ◌∷◌, length, map, refl, sym, ◌∙◌, ap, inl, inr, arith, subst, Option, Some}
 use Rattle.std.specs.Prelude.{slice_get, option_map, All, Contains}
 use Rattle.std.specs.Option.{option_map_or}
 use Rattle.std.proofs.lemmas.Bool.{cases_eq}
@@ -7,11 +7,15 @@ use Rattle.std.proofs.lemmas.Option.{slice_get-map}
 use Rattle.pre_base.specs.declared.numbers.ArcId.{ArcId}
 use Rattle.pre_topo.specs.declared.arcs.Arc.{Arc}
 use Rattle.pre_topo.specs.Arcs.{latency_at}
+use Rattle.pre_topo.specs.declared.nodes.NodeKind.TheVariants.{Bridge}
 use Rattle.pre_streams.specs.declared.rows.Row.{Row}
+use Rattle.pre_streams.specs.Rows.{IsRow}
 use Rattle.pre_bridge.specs.Table.{onward, latency_of}
 use Rattle.pre_history.specs.Scenario.{Scenario, no_arc, no_row, row, send, latency}
 use Rattle.pre_history.specs.Comings.{after, hops, next_arc}
 use Rattle.pre_laws.proofs.Fitting.{sent}
+use Rattle.pre_memory.specs.Stations.{LeadsTo}
+use Rattle.pre_memory.proofs.Stations.{inner}
 use Rattle.pre_sim.specs.Reach.{AllFit}
 use Rattle.pre_sim.proofs.Lists.{within, read_at, at_map, find_at, map_at}
 use Rattle.pre_sim.proofs.NumberTests.{is_eq, not_eq}
@@ -65,6 +69,16 @@ module _ (w : Scenario) (fit : AllFit w.net w.streams w.script) (along : GoAlong
       let at : slice_get (row w n).arcs (suc p.0) ≡ Some b = sym (says_at n a lt p.0 p.1 p.2 p.3) ∙ is in
       let here : slice_get (hops w n) (suc p.0) ≡ Some b.0 = at_map (λ (y : ArcId). y.0) (row w n).arcs (suc p.0) b at in
       (suc p.0, within (hops w n) (suc p.0) b.0 here, read_at (hops w n) (suc p.0) b.0 b.0 here)
+
+  -- and the arc leads to a bridge
+  pub at_bridge : (n a : ℕ) (b : ArcId) → n < length w.script.sends → Contains (hops w n) a → onward w.net w.streams a (row w n).vid ≡ Some b → LeadsTo w.net a Bridge
+  at_bridge n a b lt over is =
+      let p = at_place n a over in
+      let at : slice_get (row w n).arcs (suc p.0) ≡ Some b = sym (says_at n a lt p.0 p.1 p.2 p.3) ∙ is in
+      let s = sent w fit.streams_fit fit.script_fits n lt in
+      let rule : IsRow w.net (row w n) = fit.streams_fit.each (send w n).send.stream.0 no_row (within w.streams.rows (send w n).send.stream.0 s.row s.known) in
+      let less : p.0 + 1 < length (row w n).arcs = omega (arith, within (row w n).arcs (suc p.0) b at) in
+      subst (λ m. LeadsTo w.net m Bridge) p.3 (inner w.net (row w n) rule.route p.0 p.1 p.2 less)
 
 -- how long a frame stays that arrived by an arc of the network
 pub stays_for : (w : Scenario) (a : ℕ) → a < length w.net.arcs → latency_of w.net a ≡ latency w a

@@ -112,7 +112,7 @@ module _ (w : Scenario) (t a : ℕ) (f : FrameRef) (store : Store) (old : List L
       → KeepsCome w store store' old (set old a new) f
   keeps_so over store' new true es same (room, rings, stored, told) =
       let below = with_room lane.rings f.prio (length (frames_at lane.rings f.prio)) lane_keeps.eight room in
-      subst (λ (s : Store). KeepsCome w store s old (set old a new) f) (sym stored) (keep_entered w a f store old lane new here over below rings same.outgoing)
+      subst (λ (s : Store). KeepsCome w store s old (set old a new) f) (sym stored) (keep_entered w a f store old lane new here over below room rings same.outgoing)
   keeps_so over store' new false es same (full, rings, stored, told) =
       subst (λ (s : Store). KeepsCome w store s old (set old a new) f) (sym stored) (keep_dropped w a f store old lane new here rings same.outgoing)
 

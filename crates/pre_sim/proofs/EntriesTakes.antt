@@ -184,7 +184,7 @@ module _ (w : Scenario) (routed : IsRouted w) (laws : TakeLaws) (t : ℕ) (store
         stands = on w.net w.streams calls stands;
         keeps = subst (λ (xs : List Entry). Keeps w store lanes xs (f ∷ [])) (sym out.1) moving;
         over = over;
-        known = routed.arcs f.frame.0 next.0 moving.each_moving.0.known over;
+        known = routed.arcs f.frame.0 next.0 moving.apart.each_moving.0.known over;
       }
 
   -- none came out

@@ -10,12 +10,16 @@ use Rattle.pre_history.specs.Selected.{delivery_of, is_dropped}
 use Rattle.pre_history.specs.Queries.{Deliveries}
 use Rattle.pre_history.specs.Deliveries.{DeliversOnce}
 use Rattle.pre_history.specs.Legal.{LegalBefore, FirstAliasAt}
+use Rattle.pre_bridge.specs.declared.relays.Relay.{Relay}
 use Rattle.pre_bridge.specs.Inside.{Entry, inside}
+use Rattle.pre_bridge.specs.Relays.{Stands}
 use Rattle.pre_sim.specs.declared.lanes.Lane.{Lane}
 use Rattle.pre_sim.specs.declared.ticks.Progress.{Progress}
 use Rattle.pre_sim.specs.Keeps.{Store, Keeps, IsKept, TakesIn}
 use Rattle.pre_sim.specs.Stands.{LanesStand, AreSentBefore, AreSetBefore, Reaches, sends_turn}
-use Rattle.pre_sim.specs.Parts.{LegalAt, IsFront, LanesPart, LanesFront, LanesReached, SetsPart, SetsFront, ArrivalsAlias, Carries, CarriesFront, CarriesAlias, IsReached}
+use Rattle.pre_sim.specs.Parts.{LegalAt, IsFront, LanesPart, LanesFront, SetsPart, SetsFront, ArrivalsAlias, Carries, CarriesFront, CarriesAlias, IsReached}
+use Rattle.pre_sim.specs.Room.{ArrivalsReached}
+use Rattle.pre_sim.proofs.SameCalls.{lanes_by}
 use Rattle.pre_sim.proofs.Lists.{count_by-append}
 use Rattle.pre_sim.proofs.NumberTests.{adds, is_le}
 use Rattle.pre_sim.proofs.StageTests.{set_over, sends_here}
@@ -91,11 +95,22 @@ module _ (w : Scenario) (t : ℕ) (old : Progress) where
         (alias (h ++ es) (inside w.net w.streams r.calls ++ more) (subst (λ m. LegalAt w t m (h ++ es)) place one.0)
         (subst (λ m. LanesStand w (h ++ es) t m from (inside w.net w.streams r.calls ++ more)) place one.1))
 
-    pub lead_reached : IsReached w t 0 old → LanesReached w t k from
-    lead_reached reached = let one = led reached.0 reached.1 in (reached.0 ++ es, inside w.net w.streams reached.1.calls ++ more, one.0, one.1)
-
-    pub lead_keeps : (entries : List Entry) → Keeps w old.store old.lanes.items entries [] → (entries' : List Entry) × Keeps w store from entries' []
-    lead_keeps entries keeps = (entries ++ more, subst (λ ls. Keeps w store ls (entries ++ more) []) (sym is) (so_far.keeps entries keeps))
+    pub lead_reached : k ≡ 1 + A → (relay : Relay) → relay ≡ old.relay → more ≡ [] → IsReached w t 0 old → IsKept w t old → ArrivalsReached w t relay from store
+    lead_reached is_k relay same none reached kept =
+        let h = reached.0 ++ es in
+        let one = led reached.0 reached.1 in
+        let entries = inside w.net w.streams kept.calls in
+        let behind : (xs : List Entry) → xs ++ more ≡ xs = λ xs. ap (λ ys. xs ++ ys) none ∙ append-nil xs in
+        let stand : LanesStand w h t (1 + A) from (inside w.net w.streams reached.1.calls) =
+        subst (λ m. LanesStand w h t m from (inside w.net w.streams reached.1.calls)) is_k (subst (LanesStand w h t k from) (behind (inside w.net w.streams reached.1.calls)) one.1) in
+        record {
+          history = h;
+          calls = kept.calls;
+          legal = subst (λ m. LegalAt w t m h) is_k one.0;
+          relays = subst (λ (r : Relay). Stands r w.net w.streams kept.calls) (sym same) kept.stands;
+          stand = lanes_by w h t (1 + A) old.relay from reached.1.calls kept.calls reached.1.relay kept.stands stand;
+          keeps = subst (λ ls. Keeps w store ls entries []) (sym is) (subst (λ xs. Keeps w store lanes xs []) (behind entries) (so_far.keeps entries kept.keeps));
+        }
 
   -- ---- at the expiries' end
 

@@ -3,6 +3,7 @@ pub mod NumberTests
 pub mod StageTests
 pub mod Lists
 pub mod Counts
+pub mod Counted
 pub mod Keeping
 pub mod TellParts
 pub mod Others
@@ -30,6 +31,9 @@ pub mod SlotsBack
 pub mod Landings
 pub mod ArrivalParts
 pub mod AllArrivals
+pub mod SameCalls
+pub mod SlotsThere
+pub mod ArrivalRooms
 pub mod TellFronts
 pub mod FrameSizes
 pub mod EntriesWaiting

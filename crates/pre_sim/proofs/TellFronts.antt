@@ -3,7 +3,6 @@ use Rattle.std.proofs.Common.{◌≡◌, ℕ, [], ◌∷◌, ◌++◌, Result, E
 use Rattle.pre_topo.specs.declared.network.Network.{Network}
 use Rattle.pre_history.specs.History.{PlainEvent, History}
 use Rattle.pre_sim.specs.declared.halts.Halt.{Halt}
-use Rattle.pre_sim.specs.declared.halts.Halt.TheVariants.{Memory}
 use Rattle.pre_sim.specs.Telling.{TellsAll}
 use Rattle.pre_sim.specs.Parts.{TellsOne, TellsPart, NoArrival}
 use Rattle.pre_sim.specs.Told.{Takes, Fails}
@@ -17,10 +16,3 @@ one_failed net r s a b c torn es e Whole Front Before told one front d was is =
     then_front net r s a b c torn es (λ x fs. fs ≡ e ∷ []) (λ fs. fs ≡ e ∷ []) Whole Front Before told
     (part_of_one net r b c torn e (λ x fs. fs ≡ e ∷ []) (λ fs. fs ≡ e ∷ []) NoArrival one (λ x. refl) refl)
     (λ fs at. subst (λ gs. Front (es ++ gs)) (sym at) front) d was is
-
--- want of memory
-pub no_memory : {U : Type 0} (net : Network) (s : Result U Halt) (a b : Takes) (torn : Fails) (es : History)
-    (Whole : U → History → Type 0) (Front : History → Type 0) (Before : ℕ → ℕ → History → Type 0)
-    → TellsAll net a b es → Front es → (d : Halt) → d ≡ Memory → s ≡ Err d → TellsPart net s a b torn Whole Front Before
-no_memory net s a b torn es Whole Front Before told front d memory is =
-    subst (λ x. TellsPart net x a b torn Whole Front Before) (sym is) (subst (λ x. TellsPart net (Err x) a b torn Whole Front Before) (sym memory) (es, told, front))

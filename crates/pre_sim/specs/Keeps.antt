@@ -1,12 +1,14 @@
 -- Where the frames of a run stand: each that waits, is being sent, is interrupted or is inside a bridge stands in a slot of the
--- store, and no two stand in one slot. What is on a wire has octets of its own.
+-- store, no two stand in one slot, and no other slot is out. What is on a wire has octets of its own.
 use Rattle.std.specs.Prelude.{ℕ, ◌+◌, ◌≡◌, ◌<◌, ◌≤◌, ◌==◌, List, [], ◌++◌, length, map, count_by, set, slice_get, Contains, Option, Some}
 use Rattle.std.specs.List.{sum_by, AllByRecursion as Every}
 use Rattle.pre_base.specs.declared.limits.TheConstants.{LEAST_FRAME}
 use Rattle.pre_base.specs.declared.numbers.FrameNo.{FrameNo}
 use Rattle.pre_rings.specs.declared.slots.FrameRef.{FrameRef}
-use Rattle.pre_rings.specs.Ports.{IsPort, frames_at}
+use Rattle.pre_rings.specs.Ports.{IsPort, frames_at, capacity_at}
 use Rattle.pre_rings.specs.Stores.{HoldsAt}
+use Rattle.pre_topo.specs.Memory.{slots}
+use Rattle.pre_topo.specs.declared.nodes.NodeKind.TheVariants.{Bridge}
 use Rattle.pre_history.specs.Scenario.{Scenario, arc, row, send, FrameOf}
 use Rattle.pre_history.specs.Comings.{hops}
 use Rattle.pre_bridge.specs.declared.relays.Relay.{Relay}
@@ -14,6 +16,8 @@ use Rattle.pre_send.specs.Owned.{frames_of}
 use Rattle.pre_links.specs.Standing.{IsReady, IsUpTo}
 use Rattle.pre_bridge.specs.Inside.{Call, Entry, inside}
 use Rattle.pre_bridge.specs.Relays.{Stands}
+use Rattle.pre_memory.specs.Slots.{Held, frames_held, slots_out}
+use Rattle.pre_memory.specs.Stations.{LeadsTo}
 use Rattle.pre_sim.specs.declared.lanes.Lane.{Lane}
 use Rattle.pre_sim.specs.declared.ticks.Progress.{Progress}
 
@@ -45,14 +49,16 @@ pub record IsUnderWay (w : Scenario) (store : Store) (a : ℕ) (f : FrameRef) : 
   pub frame : IsFrameOf w store f
   pub over : GoesOver w f.frame a
 
--- The frame is inside a bridge, and goes on over the arc by which it leaves.
+-- The frame is inside a bridge, to which the arc leads by which it arrived, and goes on over the arc by which it leaves.
 pub record IsKeptInside (w : Scenario) (store : Store) (e : Entry) : Type 0 where
   pub frame : IsFrameOf w store e.frame
+  pub from : LeadsTo w.net e.arc Bridge
   pub onto : GoesOver w e.frame.frame e.next.0
 
 pub record LaneKeeps (w : Scenario) (store : Store) (a : ℕ) (lane : Lane) : Type 0 where
   pub eight : IsPort lane.rings
   pub capacities : lane.rings.capacities ≡ (arc w a).rings
+  pub within : (p : ℕ) → length (frames_at lane.rings p) ≤ capacity_at lane.rings p
   pub waiting : (p : ℕ) → Every (Waits w store a p) (frames_at lane.rings p)
   pub sending : Every (IsUnderWay w store a) (frames_of lane.outgoing.sender)
 
@@ -71,11 +77,27 @@ abbrev pub uses : List Lane → List Entry → List FrameRef → ℕ → ℕ
 uses lanes entries moving s = sum_by (of_lane s) lanes + among s (map (λ e. e.frame) entries) + among s moving
 
 -- All that stands at arcs, inside bridges and on its way between them stands in a slot of its own.
-pub record Keeps (w : Scenario) (store : Store) (lanes : List Lane) (entries : List Entry) (moving : List FrameRef) : Type 0 where
+pub record StandApart (w : Scenario) (store : Store) (lanes : List Lane) (entries : List Entry) (moving : List FrameRef) : Type 0 where
   pub each_lane : (a : ℕ) (lane : Lane) → slice_get lanes a ≡ Some lane → LaneKeeps w store a lane
   pub each_inside : Every (IsKeptInside w store) entries
   pub each_moving : Every (IsFrameOf w store) moving
   pub once : (s : ℕ) → uses lanes entries moving s ≤ 1
+
+-- ---- no slot without a frame
+
+-- the frames at a lane
+abbrev pub held_of : Lane → Held
+held_of lane = record { rings = lane.rings.frames; sender = frames_of lane.outgoing.sender }
+
+-- As many slots are out as frames stand at arcs, inside bridges and on their way.
+abbrev pub IsCounted : Store → List Lane → List Entry → List FrameRef → Type 0
+IsCounted store lanes entries moving = slots_out store ≡ sum_by (λ l. frames_held (held_of l)) lanes + length entries + length moving
+
+-- The frames stand in slots of their own, each slot that is out is that of one, and there are as many slots as the network says.
+pub record Keeps (w : Scenario) (store : Store) (lanes : List Lane) (entries : List Entry) (moving : List FrameRef) : Type 0 where
+  pub apart : StandApart w store lanes entries moving
+  pub counted : IsCounted store lanes entries moving
+  pub all : length store ≡ slots w.net
 
 -- So does all of a run, of which no frame came to a bridge later than at this tick.
 pub record IsKept (w : Scenario) (tick : ℕ) (p : Progress) : Type 0 where

@@ -9,6 +9,7 @@ pub mod Steps
 pub mod Told
 pub mod Sends
 pub mod Parts
+pub mod Room
 pub mod Arriving
 pub mod Choices
 pub mod Starting

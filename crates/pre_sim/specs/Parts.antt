@@ -132,10 +132,6 @@ pub record LanesPart (w : Scenario) (t k n delivered : ℕ) (store store' : Stor
 abbrev pub LanesFront : (w : Scenario) (t k : ℕ) (old : List Lane) → History → Type 0
 LanesFront w t k old es = (h : History) (entries : List Entry) → LegalAt w t k h → LanesStand w h t k old entries → IsFront w (h ++ es)
 
--- some history leads there
-abbrev pub LanesReached : (w : Scenario) (t k : ℕ) (old : List Lane) → Type 0
-LanesReached w t k old = (h : History) × (entries : List Entry) × LegalAt w t k h × LanesStand w h t k old entries
-
 -- the part of an arc, or of the first n of them, at which frames arrive and go into the relay
 abbrev pub ArrivalPart : (w : Scenario) (t a delivered : ℕ) → (store store' : Store) → (relay relay' : Relay) → (old new : Lane) → History → Type 0
 ArrivalPart w t a delivered store store' relay relay' old new es = (more : List Entry) × LanePart w t (Phase.arrivals a) a None old delivered store store' new more es × TakesIn w relay relay' more

@@ -1,4 +1,4 @@
-ghost use Rattle.std.specs.Prelude.{◌≡◌, ◌<◌, ◌≤◌, ◌+◌, ◌*◌, ◌^◌, IfOk, IfErr, IfSome, IsNone, ◌↔◌, List, [], None, length, take};
+ghost use Rattle.std.specs.Prelude.{◌≡◌, ◌<◌, ◌≤◌, ◌+◌, ◌*◌, ◌^◌, IfSome, IsNone, ◌↔◌, List, None, length, take};
 ghost use Rattle.pre_incoming.specs.declared.landings.Landed.TheVariants.{Alias, Frame, Lldp};
 ghost use Rattle.pre_base.specs.declared.numbers.FrameNo.{FrameNo};
 ghost use Rattle.pre_base.specs.declared.limits.TheConstants.{GREATEST_FRAME};
@@ -9,15 +9,15 @@ ghost use Rattle.pre_incoming.specs.Wires.{Receives};
 ghost use Rattle.pre_history.specs.History.{History};
 ghost use Rattle.pre_history.specs.Placed.{moment_of};
 ghost use Rattle.pre_history.specs.Legal.{LegalBefore};
-ghost use Rattle.pre_bridge.specs.Inside.{Call, Entry};
+ghost use Rattle.pre_bridge.specs.Inside.{Call};
 ghost use Rattle.pre_bridge.specs.Relays.{Stands};
-ghost use Rattle.pre_sim.specs.declared.halts.Halt.TheVariants.{Memory};
 ghost use Rattle.pre_history.specs.Moments.{Phase};
 ghost use Rattle.pre_sim.specs.Telling.{HasCause};
 ghost use Rattle.pre_sim.specs.Reach.{AllFit};
-ghost use Rattle.pre_sim.specs.Keeps.{Keeps, LaneKeeps, AreReady};
+ghost use Rattle.pre_sim.specs.Keeps.{LaneKeeps, AreReady};
 ghost use Rattle.pre_sim.specs.Arriving.{KeepsInside, Listens, delivered_at};
-ghost use Rattle.pre_sim.specs.Parts.{TellsPart, TellsOne, LaneFront, LaneReached, LaneAlias, ArrivalPart, ArrivalsPart, ArrivalsAlias, LanesFront, LanesReached, scenario_of, count_of};
+ghost use Rattle.pre_sim.specs.Parts.{TellsPart, TellsOne, LaneFront, LaneAlias, ArrivalPart, ArrivalsPart, ArrivalsAlias, LanesFront, scenario_of, count_of};
+ghost use Rattle.pre_sim.specs.Room.{ArrivalReached, ArrivalsReached, TakesOne};
 
 use crate::frames::{row_of, stored};
 use crate::halts::Halt;
@@ -48,7 +48,7 @@ pub(crate) fn arrive_on<W: Watcher>(
     requires until { now.0 ≤ plan.now.script.now.until.0 }
     requires fit { AllFit plan.now.net.now plan.now.streams.now plan.now.script.now }
     requires keeps { LaneKeeps (scenario_of plan.now) store.old arc.0 lane.old }
-    requires reached { LaneReached (scenario_of plan.now) now.0 (Phase.arrivals arc.0) arc.0 None lane.old }
+    requires reached { ArrivalReached (scenario_of plan.now) now.0 arc.0 lane.old relay.old store.old }
     requires stands { (calls : List Call) × Stands relay.old plan.now.net.now plan.now.streams.now calls }
     requires latest { relay.old.latest.0 ≤ now.0 }
     ensures part { TellsPart plan.now.net.now result (W.took watcher.old) (W.took watcher.new) (W.torn watcher.new)
@@ -74,7 +74,7 @@ pub(crate) fn arrive_on<W: Watcher>(
         return Ok(false);
     };
     let octets = &octets[..landing.size];
-    if keep_inside(plan, now, arc, frame, octets, relay, store)? {
+    if keep_inside(plan, now, arc, frame, octets, relay, store) {
         return Ok(false);
     }
     deliver(plan.net, now, arc, frame, octets, watcher)?;
@@ -139,32 +139,29 @@ fn keep_inside(
     octets: &[u8],
     relay: &mut Relay,
     store: &mut FrameStore,
-) -> Result<bool, Halt>
+) -> bool
     requires now { now.0 ≤ 4 * 10 ^ 12 }
     requires fit { AllFit plan.now.net.now plan.now.streams.now plan.now.script.now }
     requires known { frame.0 < length plan.now.script.now.sends }
     requires octets { octets.now ≡ FrameOf (scenario_of plan.now) frame.0 }
     requires latest { relay.old.latest.0 ≤ now.0 }
-    ensures inside { IfOk result (KeepsInside (scenario_of plan.now) now.0 arc.0 frame store.old store.new relay.old relay.new) }
-    ensures memory { IfErr result (λ e. e ≡ Memory) }
+    requires takes { TakesOne store.old relay.old arc.0 }
+    ensures inside { KeepsInside (scenario_of plan.now) now.0 arc.0 frame store.old store.new relay.old relay.new result }
     ensures latest { relay.new.latest.0 ≤ now.0 }
 {
-    if !relay.room(arc) {
-        return Err(Halt::Memory);
-    }
     let row = row_of(plan, frame.0 as usize);
     let kept = FrameRef {
-        slot: stored(store, octets)?,
+        slot: stored(store, octets),
         frame,
         size: octets.len() as u16,
         prio: row.prio,
         vid: row.vid,
     };
     match relay.deliver(now, arc, kept) {
-        Ok(()) => Ok(true),
+        Ok(()) => true,
         Err(kept) => {
             store.give_back(kept.slot);
-            Ok(false)
+            false
         }
     }
 }
@@ -230,10 +227,8 @@ pub(crate) fn arrivals<W: Watcher>(
     requires lanes { length lanes.old ≡ length plan.now.net.now.arcs }
     requires now { now.0 ≤ 4 * 10 ^ 12 }
     requires until { now.0 ≤ plan.now.script.now.until.0 }
-    requires keeps { (entries : List Entry) × Keeps (scenario_of plan.now) store.old lanes.old entries [] }
-    requires reached { LanesReached (scenario_of plan.now) now.0 (1 + length plan.now.net.now.arcs) lanes.old }
+    requires reached { ArrivalsReached (scenario_of plan.now) now.0 relay.old lanes.old store.old }
     requires ready { AreReady now.0 lanes.old }
-    requires stands { (calls : List Call) × Stands relay.old plan.now.net.now plan.now.streams.now calls }
     requires latest { relay.old.latest.0 ≤ now.0 }
     ensures ready { AreReady now.0 lanes.new }
     ensures part { TellsPart plan.now.net.now result (W.took watcher.old) (W.took watcher.new) (W.torn watcher.new)

@@ -1,6 +1,7 @@
 ghost use Rattle.std.specs.Prelude.{ℕ, ◌≡◌, ◌<◌, ◌≤◌, ◌+◌, ◌*◌, ◌^◌, List, [], ◌∷◌, IfOk, OnOk, length};
 ghost use Rattle.pre_rings.specs.Stores.{IsOut};
 ghost use Rattle.pre_bridge.specs.Inside.{Call, Entry, inside};
+ghost use Rattle.pre_memory.specs.Slots.{slots_out};
 ghost use Rattle.pre_bridge.specs.Relays.{Stands};
 ghost use Rattle.pre_sim.specs.Telling.{HasCause};
 ghost use Rattle.pre_sim.specs.Reach.{AllFit};
@@ -134,6 +135,7 @@ pub(crate) fn send<W: Watcher>(
     requires known { number < length plan.now.script.now.sends }
     requires lanes { length lanes.old ≡ length plan.now.net.now.arcs }
     requires keeps { (entries : List Entry) × Keeps (scenario_of plan.now) store.old lanes.old entries [] }
+    requires slot { slots_out store.old < length store.old }
     ensures links { SameLinks lanes.old lanes.new }
     ensures keeps { OnOk result (KeepsSame (scenario_of plan.now) store.old store.new lanes.old lanes.new) }
     ensures part { TellsPart plan.now.net.now result (W.took watcher.old) (W.took watcher.new) (W.torn watcher.new)
@@ -143,6 +145,6 @@ pub(crate) fn send<W: Watcher>(
     ensures same { W.same watcher.old watcher.new }
 {
     let arc = first_arc(plan, number);
-    let frame = frame_of(plan, number, store)?;
+    let frame = frame_of(plan, number, store);
     come(plan, now, arc, frame, lanes, store, watcher)
 }

@@ -1,56 +1,57 @@
-ghost use Rattle.std.specs.Prelude.{◌≡◌, ◌<◌, ◌≤◌, IfOk, IfErr, length, slice_get, Some};
+ghost use Rattle.std.specs.Prelude.{◌≡◌, ◌<◌, ◌≤◌, length, slice_get, Some};
 ghost use Rattle.pre_base.specs.declared.limits.TheConstants.{GREATEST_FRAME};
 ghost use Rattle.pre_streams.specs.Rows.{IsRow};
 ghost use Rattle.pre_history.specs.Scenario.{row, FrameOf};
 ghost use Rattle.pre_history.specs.Comings as comings;
-ghost use Rattle.pre_sim.specs.declared.halts.Halt.TheVariants.{Memory};
+ghost use Rattle.pre_memory.specs.Slots.{slots_out};
 ghost use Rattle.pre_sim.specs.Reach.{AllFit};
 ghost use Rattle.pre_sim.specs.Keeps.{IsFrameOf};
 ghost use Rattle.pre_sim.specs.Arriving.{IsStored};
 ghost use Rattle.pre_sim.specs.Parts.{scenario_of};
 
-use crate::halts::Halt;
 use crate::plans::Plan;
 use pre_base::{ArcId, FrameNo, GREATEST_FRAME};
 use pre_incoming::put_frame;
+use pre_memory::slots_are_counted;
 use pre_rings::{FrameRef, FrameStore, Slot};
 use pre_streams::Row;
 use pre_topo::Network;
 
-/// Puts octets into a slot that was in. Without one there is no memory for them.
-pub(crate) fn stored(store: &mut FrameStore, octets: &[u8]) -> Result<Slot, Halt>
-    requires { length octets.now ≤ GREATEST_FRAME }
-    ensures stored { IfOk result (λ slot. IsStored store.old octets.now slot store.new) }
-    ensures memory { IfErr result (λ e. e ≡ Memory) }
+/// Puts octets into a slot that was in, of which there is one.
+pub(crate) fn stored(store: &mut FrameStore, octets: &[u8]) -> Slot
+    requires size { length octets.now ≤ GREATEST_FRAME }
+    requires slot { slots_out store.old < length store.old }
+    ensures { IsStored store.old octets.now result store.new }
 {
+    slots_are_counted();
     let Some(slot) = store.take_slot() else {
-        return Err(Halt::Memory);
+        unreachable!()
     };
     store.fill(&slot, octets);
-    Ok(slot)
+    slot
 }
 
 /// The frame of a send of the script, in a slot of its own.
-pub(crate) fn frame_of(plan: &Plan, number: usize, store: &mut FrameStore) -> Result<FrameRef, Halt>
+pub(crate) fn frame_of(plan: &Plan, number: usize, store: &mut FrameStore) -> FrameRef
     requires fit { AllFit plan.now.net.now plan.now.streams.now plan.now.script.now }
     requires known { number < length plan.now.script.now.sends }
-    ensures frame { IfOk result (λ f. IsFrameOf (scenario_of plan.now) store.new f) }
-    ensures number { IfOk result (λ f. f.frame.0 ≡ number) }
-    ensures stored { IfOk result (λ f. IsStored store.old (FrameOf (scenario_of plan.now) number) f.slot store.new) }
-    ensures memory { IfErr result (λ e. e ≡ Memory) }
+    requires slot { slots_out store.old < length store.old }
+    ensures frame { IsFrameOf (scenario_of plan.now) store.new result }
+    ensures number { result.frame.0 ≡ number }
+    ensures stored { IsStored store.old (FrameOf (scenario_of plan.now) number) result.slot store.new }
 {
     let mut octets = [0u8; GREATEST_FRAME as usize];
     let frame = FrameNo(number as u32);
     let size = put_frame(&plan.inputs(), frame, &mut octets);
     let row = row_of(plan, number);
-    let slot = stored(store, &octets[..size])?;
-    Ok(FrameRef {
+    let slot = stored(store, &octets[..size]);
+    FrameRef {
         slot,
         frame,
         size: size as u16,
         prio: row.prio,
         vid: row.vid,
-    })
+    }
 }
 
 /// The row of a send of the script.

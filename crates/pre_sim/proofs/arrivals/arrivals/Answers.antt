@@ -3,13 +3,16 @@ use Rattle.std.specs.Prelude.{slice_get, slice_index_or, set, None}
 use Rattle.std.proofs.lemmas.List.{length-set}
 use Rattle.pre_history.specs.Moments.{Phase}
 use Rattle.pre_history.specs.Scenario.{Scenario}
+use Rattle.pre_bridge.specs.Inside.{inside}
 use Rattle.pre_links.specs.Standing.{IsReady}
 use Rattle.pre_sim.specs.Parts.{ArrivalPart, ArrivalsAlias, ArrivalsPart, LaneAlias, LaneFront, LanesFront, count_of, scenario_of}
 use Rattle.pre_sim.specs.Told.{tells_nothing, tells_then}
 use Rattle.pre_sim.proofs.Lists.{found_at}
 use Rattle.pre_sim.proofs.Readiness.{ready_set}
 use Rattle.pre_sim.proofs.TellParts.{byte_of, then_early}
-use Rattle.pre_sim.proofs.AllArrivals.{arrivals_begin, arrival_more, arrival_front_more, arrival_reached, alias_more, lane_kept}
+use Rattle.pre_sim.proofs.FrameSizes.{routed}
+use Rattle.pre_sim.proofs.ArrivalRooms.{reached}
+use Rattle.pre_sim.proofs.AllArrivals.{arrivals_begin, arrival_more, arrival_front_more, alias_more, lane_kept}
 use Rattle.pre_sim.proofs.arrivals.arrivals.Goals as goal
 
 pub loop-arc-init : goal.loop-arc-init
@@ -36,7 +39,7 @@ arrive_on-requires-clause-keeps g c =
     found_at c.loop-arc.lanes c.loop-arc.arc c.index-lanes-arc.result (search rules) (sym c.index-lanes-arc.is) in
     let here : slice_get c.loop-arc.lanes c.loop-arc.arc ≡ Some lane = found ∙ ap Some c.index-lanes-arc.is in
     lane_kept w c.args.now.0 c.loop-arc.arc c.loop-arc.delivered 0 c.args.store.now c.loop-arc.store c.loop-arc.store c.args.relay.now c.loop-arc.relay c.loop-arc.relay
-    c.args.lanes.now c.loop-arc.lanes lane lane here (omega (arith, c.loop-arc.invariant.long)) (search rules, refl) before.0 [] before.2 c.requires.keeps.0 c.requires.keeps.1
+    c.args.lanes.now c.loop-arc.lanes lane lane here (omega (arith, c.loop-arc.invariant.long)) (search rules, refl) before.0 [] before.2 (inside w.net w.streams c.requires.reached.calls) c.requires.reached.keeps
 
 pub arrive_on-requires-clause-reached : goal.arrive_on-requires-clause-reached
 arrive_on-requires-clause-reached g c =
@@ -46,12 +49,13 @@ arrive_on-requires-clause-reached g c =
     let found : slice_get c.loop-arc.lanes c.loop-arc.arc ≡ Some c.index-lanes-arc.result =
     found_at c.loop-arc.lanes c.loop-arc.arc c.index-lanes-arc.result (search rules) (sym c.index-lanes-arc.is) in
     let here : slice_get c.loop-arc.lanes c.loop-arc.arc ≡ Some lane = found ∙ ap Some c.index-lanes-arc.is in
-    arrival_reached w c.args.now.0 c.loop-arc.arc c.loop-arc.delivered 0 c.args.store.now c.loop-arc.store c.loop-arc.store c.args.relay.now c.loop-arc.relay c.loop-arc.relay
-    c.args.lanes.now c.loop-arc.lanes lane lane here (omega (arith, c.loop-arc.invariant.long)) (search rules, refl) before.0 [] before.2 c.requires.reached
+    let many : length c.loop-arc.lanes ≡ length w.net.arcs = c.loop-arc.invariant.long in
+    reached w (routed w c.requires.fit) c.args.now.0 c.loop-arc.arc c.loop-arc.delivered c.args.relay.now c.loop-arc.relay c.args.lanes.now c.loop-arc.lanes c.args.store.now c.loop-arc.store
+    before.0 c.requires.reached before.2 many lane here
 
 pub arrive_on-requires-clause-stands : goal.arrive_on-requires-clause-stands
 arrive_on-requires-clause-stands g c =
-    let came = c.loop-arc.invariant.part.2.2 c.requires.stands.0 c.requires.stands.1 in
+    let came = c.loop-arc.invariant.part.2.2 c.requires.reached.calls c.requires.reached.relays in
     (came.0, came.1)
 
 pub returns-in_err-arrived-clause-ready : goal.returns-in_err-arrived-clause-ready

@@ -29,7 +29,7 @@ end_on-requires-clause-keeps g c =
     (sym c.index-lanes-arc.is) in
     let here : slice_get c.loop-arc.lanes c.loop-arc.arc ≡ Some lane = found ∙ ap Some c.index-lanes-arc.is in
     let now = before.2.keeps c.requires.keeps.0 (subst (λ xs. Keeps (scenario_of c.args.plan.now) c.args.store.now c.args.lanes.now xs []) refl c.requires.keeps.1) in
-    now.each_lane c.loop-arc.arc lane here
+    now.apart.each_lane c.loop-arc.arc lane here
 
 pub end_on-requires-clause-ready : goal.end_on-requires-clause-ready
 end_on-requires-clause-ready g c =

@@ -24,8 +24,8 @@ returns-clause-part g c =
     let found : slice_get c.args.lanes.now a ≡ Some c.index-lanes-arc.result = found_at c.args.lanes.now a c.index-lanes-arc.result (search rules) (sym c.index-lanes-arc.is) in
     let here : slice_get c.args.lanes.now a ≡ Some lane = found ∙ ap Some c.index-lanes-arc.is in
     let new : Lane = record { rings = c.enter.new.rings; outgoing = lane.outgoing; incoming = lane.incoming; partner = lane.partner; setting = lane.setting; link = lane.link } in
-    let right = c.requires.keeps.1.each_moving.0 in
-    let lane_keeps = c.requires.keeps.1.each_lane a lane here in
+    let right = c.requires.keeps.1.apart.each_moving.0 in
+    let lane_keeps = c.requires.keeps.1.apart.each_lane a lane here in
     then_part c.args.plan.now.net.now c.enter.result (g.W.Watcher.took c.args.watcher.now) (g.W.Watcher.took c.args.watcher.now) (g.W.Watcher.took c.enter.new.watcher)
     (g.W.Watcher.torn c.enter.new.watcher) []
     (RingTells c.args.now.0 a c.args.frame c.args.store.now c.enter.new.store lane.rings c.enter.new.rings) _

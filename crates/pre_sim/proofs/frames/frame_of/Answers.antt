@@ -14,5 +14,5 @@ returns-clause-frame c =
     let n = c.put_frame-size.result in
     let size : n ≡ (send w k).send.size = subst (λ (x : Scenario). n ≡ (send x k).send.size) same c.put_frame-size.ensures.size in
     let octets = octets_taken v w same k n _ c.put_frame-size.new.into c.put_frame-size.ensures.size c.put_frame-size.ensures.range.0 c.put_frame-size.ensures.octets in
-    frame_is w k n c.in_ok-slot.slot c.row_of-row.result.now c.args.store.now c.stored.new.store c.requires.known c.row_of-row.ensures.here size c.put_frame-size.ensures.range.0
-    (subst (λ xs. IsStored c.args.store.now xs c.in_ok-slot.slot c.stored.new.store) octets c.in_ok-slot.ensures.stored)
+    frame_is w k n c.stored-slot.result c.row_of-row.result.now c.args.store.now c.stored-slot.new.store c.requires.known c.row_of-row.ensures.here size c.put_frame-size.ensures.range.0
+    (subst (λ xs. IsStored c.args.store.now xs c.stored-slot.result c.stored-slot.new.store) octets c.stored-slot.ensures)

@@ -40,7 +40,7 @@ start_on-requires-clause-keeps g c =
     let n = c.loop-arc.arc in
     let found : slice_get c.loop-arc.lanes n ≡ Some c.index-lanes-arc.result = found_at c.loop-arc.lanes n c.index-lanes-arc.result (search rules) (sym c.index-lanes-arc.is) in
     let now = (c.loop-arc.invariant.part.2 c.requires.keeps.0).keeps c.requires.keeps.1 c.requires.keeps.2 in
-    (c.requires.keeps.0, now.each_lane n (slice_index_or c.loop-arc.lanes n c.index-lanes-arc.result) (found ∙ ap Some c.index-lanes-arc.is))
+    (c.requires.keeps.0, now.apart.each_lane n (slice_index_or c.loop-arc.lanes n c.index-lanes-arc.result) (found ∙ ap Some c.index-lanes-arc.is))
 
 pub returns-in_err-start_on-clause-settled : goal.returns-in_err-start_on-clause-settled
 returns-in_err-start_on-clause-settled g c = settled_with c.args.now.0 c.loop-arc.lanes c.loop-arc.arc c.start_on.new.lane c.loop-arc.invariant.settled c.start_on.ensures.settled

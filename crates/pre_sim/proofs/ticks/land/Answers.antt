@@ -1,12 +1,11 @@
 use Rattle.std.proofs.Common.{rules, refl, sym, ◌∙◌, ◌≡◌, ◌+◌, ◌*◌, ◌++◌, length, [], subst, arith}
 use Rattle.std.proofs.lemmas.List.{take_at, append-nil}
-use Rattle.pre_bridge.specs.Inside.{inside}
 use Rattle.pre_sim.specs.Keeps.{AreReady, AreSettled, TakesIn}
 use Rattle.pre_sim.specs.Parts.{LanesPart, LanesFront, SetsFront, ArrivalsAlias, scenario_of}
 use Rattle.pre_sim.specs.Told.{tells_nothing, tells_then}
 use Rattle.pre_sim.proofs.TellParts.{then_front, then_early}
 use Rattle.pre_sim.proofs.Readiness.{still_ready}
-use Rattle.pre_sim.proofs.LandParts.{sets_lead, sets_front, lead_on, lead_front, lead_alias, lead_reached, lead_keeps, landed, landed_kept, twice, thrice}
+use Rattle.pre_sim.proofs.LandParts.{sets_lead, sets_front, lead_on, lead_front, lead_alias, lead_reached, landed, landed_kept, twice, thrice}
 use Rattle.pre_sim.proofs.ticks.land.Goals as goal
 
 pub returns-in_err-sets-clause-part : goal.returns-in_err-sets-clause-part
@@ -37,19 +36,6 @@ returns-in_err-ends-clause-part g c =
     first.1 c.ends.ensures.part (λ es front. lead_front w t old 1 _ _ _ _ _ first.0 set c.deref_mut.result.now c.deref_mut.ensures.value es front)
     c.in_err-ends.field-0.0 c.in_err-ends.was (search rules)
 
-pub arrivals-requires-clause-keeps : goal.arrivals-requires-clause-keeps
-arrivals-requires-clause-keeps g c =
-    let w = scenario_of c.args.plan.now in
-    let t = c.args.now.0 in
-    let old = c.args.progress.now in
-    let first = c.in_ok-sets.ensures.part in
-    let set = sets_lead w t old c.sets.new.progress first.0 first.2 in
-    let second = c.in_ok-ends.ensures.part in
-    let back : c.deref_mut-2.result.now ≡ c.ends.new.lanes = c.deref_mut-2.ensures.value ∙ take_at c.ends.new.lanes _ c.sets.new.progress.lanes.len (search rules) in
-    let ended = lead_on w t old 1 _ _ _ _ _ first.0 set c.deref_mut.result.now c.deref_mut.ensures.value (length w.net.arcs) 0 c.ends.new.store c.ends.new.lanes [] second.0 second.2 in
-    let told = tells_then c.args.plan.now.net.now (g.W.Watcher.took c.args.watcher.now) (g.W.Watcher.took c.sets.new.watcher) (g.W.Watcher.took c.ends.new.watcher) first.0 second.0 first.1 second.1 in
-    lead_keeps w t old (1 + length w.net.arcs) _ _ _ _ _ (first.0 ++ second.0) ended c.deref_mut-2.result.now back (inside w.net w.streams c.requires.kept.calls) c.requires.kept.keeps
-
 pub arrivals-requires-clause-reached : goal.arrivals-requires-clause-reached
 arrivals-requires-clause-reached g c =
     let w = scenario_of c.args.plan.now in
@@ -60,8 +46,7 @@ arrivals-requires-clause-reached g c =
     let second = c.in_ok-ends.ensures.part in
     let back : c.deref_mut-2.result.now ≡ c.ends.new.lanes = c.deref_mut-2.ensures.value ∙ take_at c.ends.new.lanes _ c.sets.new.progress.lanes.len (search rules) in
     let ended = lead_on w t old 1 _ _ _ _ _ first.0 set c.deref_mut.result.now c.deref_mut.ensures.value (length w.net.arcs) 0 c.ends.new.store c.ends.new.lanes [] second.0 second.2 in
-    let told = tells_then c.args.plan.now.net.now (g.W.Watcher.took c.args.watcher.now) (g.W.Watcher.took c.sets.new.watcher) (g.W.Watcher.took c.ends.new.watcher) first.0 second.0 first.1 second.1 in
-    lead_reached w t old (1 + length w.net.arcs) _ _ _ _ _ (first.0 ++ second.0) ended c.deref_mut-2.result.now back c.requires.reached
+    lead_reached w t old (1 + length w.net.arcs) _ _ _ _ _ (first.0 ++ second.0) ended c.deref_mut-2.result.now back refl c.sets.new.progress.relay first.2.kept.0 refl c.requires.reached c.requires.kept
 
 pub arrivals-requires-clause-ready : goal.arrivals-requires-clause-ready
 arrivals-requires-clause-ready g c =

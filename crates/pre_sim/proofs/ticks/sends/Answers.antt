@@ -7,6 +7,7 @@ use Rattle.pre_sim.specs.Parts.{scenario_of}
 use Rattle.pre_sim.specs.Sends.{ComesPart, ComesFront, KeepsSame, sent_frame, sent_frames, drops_of}
 use Rattle.pre_sim.specs.Told.{tells_nothing, tells_then}
 use Rattle.pre_sim.proofs.LinksKept.{links_then}
+use Rattle.pre_sim.proofs.SlotsThere.{kept_slot}
 use Rattle.pre_sim.proofs.TellParts.{then_front}
 use Rattle.pre_sim.proofs.EntriesRun.{none_come}
 use Rattle.pre_sim.proofs.EntriesCount.{kept_on, one_more_send, one_more_front, one_more_now, sends_front, more_drops, sums_up, is_now, is_not_now}
@@ -142,3 +143,9 @@ returns-after-loop-progress-clause-part g c =
         part = before.4;
       },
     )
+
+pub send-requires-clause-slot : goal.send-requires-clause-slot
+send-requires-clause-slot g c =
+    let w = scenario_of c.args.plan.now in
+    let here : c.loop-progress.progress.sent < length w.script.sends = subst (λ (ls : List SendLine). c.loop-progress.progress.sent < length ls) c.as_slice-lines.ensures c.loop-progress-test.true in
+    kept_slot w c.requires.fit c.args.now.0 c.loop-progress.progress.sent c.loop-progress.progress c.loop-progress.invariant.kept (search rules) here

@@ -34,7 +34,7 @@ returns-clause-stands c net streams calls s =
     let same : c.index_mut.result.now ≡ c.index-ingress.result.now = same_Some c.index_mut.result.now c.index-ingress.result.now (sym there.0 ∙ here.0) in
     let ok : ¬ IsErr c.keep.result = λ err. absurd (omega (arith, c.keep.ensures.full.0 err, there.1)) in
     deliver_some c.args.self.now (record c.args.self.now { ingresses = with_item c.args.self.now.ingresses c.from-place.result c.keep.new.self; latest = c.args.now }) net streams calls c.args.now.0 c.args.arc.0 c.args.frame c.in-Some.next
-    (record { due = record { 0 = c.args.now.0 + c.from.result }; next = c.in-Some.next; frame = c.args.frame }) c.index_mut.result.now c.keep.new.self s there.0 c.requires.order
+    (record { due = record { 0 = c.args.now.0 + c.from.result }; next = c.in-Some.next; frame = c.args.frame }) c.index_mut.result.now c.keep.new.self s there.0 there.1 c.requires.order
     (ap₂ (λ hops node. arc_among hops node c.args.frame.vid) (sym c.deref.ensures.value) (ap (λ n. n.node) same) ∙ sym c.in-Some.ensures)
     (ap (λ n. record { due = record { 0 = c.args.now.0 + n }; next = c.in-Some.next; frame = c.args.frame }) (c.from.ensures ∙ sym (ap (λ n. n.latency) same)))
     (ok_of c.keep.result ok c.keep.ensures.kept) refl (ap (λ i. set c.args.self.now.ingresses.items i c.keep.new.self) c.from-place.ensures) refl

@@ -1,0 +1,5 @@
+pub mod Sizes
+pub mod Spaced
+pub mod Counting
+pub mod Stores
+pub mod Stations
