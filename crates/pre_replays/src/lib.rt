@@ -8,6 +8,8 @@ mod bridges;
 #[cfg(test)]
 mod calls;
 #[cfg(test)]
+mod examples;
+#[cfg(test)]
 mod links;
 #[cfg(test)]
 mod outsides;
