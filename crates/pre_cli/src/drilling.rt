@@ -1,4 +1,4 @@
-ghost use Rattle.std.specs.Prelude.{◌≡◌, ◌≢◌, ◌≤◌, ◌×◌, [], length};
+ghost use Rattle.std.specs.Prelude.{◌≡◌, ◌≢◌, ◌≤◌, [], length};
 ghost use Rattle.pre_sim.specs.Reach.{AllFit};
 ghost use Rattle.pre_delay.specs.Runs.{IsRun};
 ghost use Rattle.pre_plant.specs.Plants.{IsPlant};

@@ -48,7 +48,7 @@ returns-in_err-tell_arrival-clause-part g c =
       lands = c.in-Some.ensures.lands;
       some = λ e. false≢true (sym (c.in-Some-outcome_of.ensures.none.1 e));
       result = c.in-Some-outcome_of.ensures.some;
-      listens = subst (λ xs. Listens t x.given (take x.size xs) old.partner c.listen.new.partner) c.as_slice.ensures c.listen.ensures.hears;
+      listens = c.listen.ensures.hears;
       unheard = c.listen.ensures.unheard;
     } in
     one_failed w.net c.tell_arrival.result c.from_residual.result
@@ -71,7 +71,7 @@ returns-in_default-given g c =
       lands = c.in-Some.ensures.lands;
       some = λ e. false≢true (sym (c.in-Some-outcome_of.ensures.none.1 e));
       result = c.in-Some-outcome_of.ensures.some;
-      listens = subst (λ xs. Listens t x.given (take x.size xs) old.partner c.listen.new.partner) c.as_slice.ensures c.listen.ensures.hears;
+      listens = c.listen.ensures.hears;
       unheard = c.listen.ensures.unheard;
     } in
     record {
@@ -107,7 +107,7 @@ returns-then-keep_inside-clause-part g c =
       lands = c.in-Some.ensures.lands;
       some = λ e. false≢true (sym (c.in-Some-outcome_of.ensures.none.1 e));
       result = c.in-Some-outcome_of.ensures.some;
-      listens = subst (λ xs. Listens t x.given (take x.size xs) old.partner c.listen.new.partner) c.as_slice.ensures c.listen.ensures.hears;
+      listens = c.listen.ensures.hears;
       unheard = c.listen.ensures.unheard;
     } in
     let user : GivesFrame w t a old c.land.new.incoming x c.land.new.into f =
@@ -134,7 +134,7 @@ returns-in_err-deliver-clause-part g c =
       lands = c.in-Some.ensures.lands;
       some = λ e. false≢true (sym (c.in-Some-outcome_of.ensures.none.1 e));
       result = c.in-Some-outcome_of.ensures.some;
-      listens = subst (λ xs. Listens t x.given (take x.size xs) old.partner c.listen.new.partner) c.as_slice.ensures c.listen.ensures.hears;
+      listens = c.listen.ensures.hears;
       unheard = c.listen.ensures.unheard;
     } in
     let user : GivesFrame w t a old c.land.new.incoming x c.land.new.into f =
@@ -169,7 +169,7 @@ returns-clause-part g c =
       lands = c.in-Some.ensures.lands;
       some = λ e. false≢true (sym (c.in-Some-outcome_of.ensures.none.1 e));
       result = c.in-Some-outcome_of.ensures.some;
-      listens = subst (λ xs. Listens t x.given (take x.size xs) old.partner c.listen.new.partner) c.as_slice.ensures c.listen.ensures.hears;
+      listens = c.listen.ensures.hears;
       unheard = c.listen.ensures.unheard;
     } in
     let user : GivesFrame w t a old c.land.new.incoming x c.land.new.into f =
