@@ -163,6 +163,7 @@ class Lane:
         self.arc = arc
         self.rings = [[] for _ in range(8)]
         self.sent = []
+        self.arrived = 0
         self.receiver = Receiver()
         self.frames = 0
         self.continuations = 0
@@ -187,6 +188,26 @@ class Lane:
         fragments = [packet for packet in self.sent if packet.kind in (START, CONTINUATION)]
         return fragments[-1] if fragments and not fragments[-1].is_last else None
 
+    def due(self, tick, net):
+        """Ticks behind this one at which something may happen on the arc, among them the first one."""
+        cost = self.arc.cost
+        for packet in self.sent[self.arrived :]:
+            if packet.end is not None:
+                yield packet.end
+                yield packet.end + self.arc.delay
+        if self.sent and self.sent[-1].end is None:
+            packet = self.sent[-1]
+            last = packet.begin + cost * (8 + len(packet.frame) - packet.place) - cost
+            yield packet.begin + ((tick - packet.begin) // cost + 1) * cost if self.express_waits() else last
+        elif self.sent:
+            yield self.sent[-1].end + 12 * cost
+        if self.arc.mode == "negotiate":
+            yield (tick // net.interval + 1) * net.interval
+            if self.heard:
+                yield self.heard[0] + self.heard[1] * net.unit
+            if self.good_since is not None and not self.active:
+                yield from (packet.end + net.verify for packet in self.verifies()[-1:])
+
     def verifies(self):
         return [packet for packet in self.sent if packet.kind == VERIFY and packet.begin >= self.good_since]
 
@@ -198,7 +219,7 @@ class Run:
         self.frames = [user_frame(rows[row], number, size) for number, (_, row, size) in enumerate(script.sends)]
         self.inside = []
         self.lines = []
-        self.delivered = self.dropped = 0
+        self.set = self.sent = self.delivered = self.dropped = 0
 
     def tell(self, *words):
         self.lines.append(" ".join(map(str, words)))
@@ -210,10 +231,12 @@ class Run:
         return self.net.arc_name(arc)
 
     def sets(self, tick):
-        for at, arc, value in self.script.sets:
-            if at == tick:
-                self.lanes[arc].setting = value
-                self.tell(tick, "set", self.name(arc), value)
+        sets = self.script.sets
+        while self.set < len(sets) and sets[self.set][0] == tick:
+            _, arc, value = sets[self.set]
+            self.set += 1
+            self.lanes[arc].setting = value
+            self.tell(tick, "set", self.name(arc), value)
 
     def ends(self, tick):
         for arc, lane in enumerate(self.lanes):
@@ -232,8 +255,9 @@ class Run:
 
     def arrivals(self, tick):
         for arc, lane in enumerate(self.lanes):
-            for packet in lane.sent:
+            for packet in lane.sent[lane.arrived :]:
                 if packet.end is not None and packet.end + lane.arc.delay == tick:
+                    lane.arrived += 1
                     self.arrival(tick, arc, lane, packet)
 
     def arrival(self, tick, arc, lane, packet):
@@ -298,9 +322,11 @@ class Run:
         for _, arc, number in due:
             route = self.row(number).route
             self.enter(tick, route[route.index(arc) + 1], number)
-        for number, (at, row, _) in enumerate(self.script.sends):
-            if at == tick:
-                self.enter(tick, self.rows[row].route[0], number)
+        sends = self.script.sends
+        while self.sent < len(sends) and sends[self.sent][0] == tick:
+            number = self.sent
+            self.sent += 1
+            self.enter(tick, self.rows[sends[number][1]].route[0], number)
 
     def enter(self, tick, arc, number):
         prio = self.row(number).prio
@@ -409,14 +435,32 @@ class Run:
         self.starts(tick)
 
 
-def run(net, rows, script):
-    """The status of a run, its text, and the trace."""
+    def next_tick(self, tick):
+        """The first tick behind this one at which something may happen, up to the last one."""
+        due = [self.script.until]
+        due += [line[0] for line in self.script.sets[self.set : self.set + 1]]
+        due += [line[0] for line in self.script.sends[self.sent : self.sent + 1]]
+        due += [entry[0] for entry in self.inside]
+        due += [at for lane in self.lanes for at in lane.due(tick, self.net)]
+        return min(at for at in due if at > tick)
+
+
+def run_over(net, rows, script):
+    """The run, and the alias before which it stopped, if one did."""
     going = Run(net, rows, script)
+    tick = 0
     try:
-        for tick in range(script.until + 1):
+        going.tick(tick)
+        while tick < script.until:
+            tick = going.next_tick(tick)
             going.tick(tick)
         going.closing()
-        status = (0, "")
     except Alias as alias:
-        status = (9, str(alias))
-    return status, "".join(line + "\n" for line in going.lines)
+        return going, str(alias)
+    return going, None
+
+
+def run(net, rows, script):
+    """The status of a run, its text, and the trace."""
+    going, alias = run_over(net, rows, script)
+    return (9 if alias else 0, alias or ""), "".join(line + "\n" for line in going.lines)

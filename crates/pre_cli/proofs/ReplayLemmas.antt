@@ -1,5 +1,5 @@
 -- What the parts of the command that runs a script answer, as answers of the whole.
-use Rattle.std.proofs.Common.{◌≡◌, ◌+◌, inl, inr, ℕ, List, Option, Result, Ok, Err, None, refl, sym, subst}
+use Rattle.std.proofs.Common.{◌≡◌, ◌+◌, inl, inr, ℕ, List, Option, Result, Ok, Err, refl, sym, subst}
 use Rattle.pre_base.specs.Told.{WhereTold, WhereTold-map}
 use Rattle.pre_base.specs.Shelves.{Told}
 use Rattle.pre_base.specs.Sinks.{Taken}
@@ -24,7 +24,7 @@ use Rattle.pre_cli.specs.Certifying.{OfFiles, IsFileIn, IsNoFile, InPlace}
 use Rattle.pre_cli.specs.Curves.{CurvesHold, LinesRise}
 use Rattle.pre_cli.specs.Headline.{Headline}
 use Rattle.pre_cli.specs.Judging.{judging}
-use Rattle.pre_cli.specs.Readings.{Reading, Instead, Gave}
+use Rattle.pre_cli.specs.Readings.{Instead, Gave}
 use Rattle.pre_cli.specs.Replaying.{script_status, ScriptRefused, script_in, Replay, scenario_in, certificate_in, scripted_in, IsUnrulyAt, replaying, ReplayingCause, ReplayingLeaves}
 use Rattle.pre_cli.specs.Runs.{RunEnds, RunCause}
 use Rattle.pre_cli.specs.Words.{ReplayWords}
@@ -100,7 +100,7 @@ module _ (words : ReplayWords) (o : Outside) where
   pub nothing_run : (s : Status) → Instead (replaying words) s o.shelf_before o.shelf_after o.told_before o.told_after → o.taken_after ≡ o.taken_before → ReplayingLeaves words s o
   nothing_run s cause same =
       let is = is_instead (replaying words) s o.shelf_before o.shelf_after o.told_before o.told_after (replaying_refusing words) cause in
-      record { done = λ e. absurd (subst IsInstead e is); alias = λ arc ordinal e. absurd (subst IsInstead e is); torn = λ e. absurd (subst IsInstead e is); stopped = λ e. inl same; nothing = λ p q r n. same }
+      record { done = λ e. absurd (subst IsInstead e is); alias = λ arc ordinal e. absurd (subst IsInstead e is); torn = λ e. absurd (subst IsInstead e is); nothing = λ p q n. same }
 
   module _ (x : Replay) (given : Gave (replaying words) o x) where
     abbrev w : Scenario
@@ -130,29 +130,25 @@ module _ (words : ReplayWords) (o : Outside) where
         done = λ e. (x, given, WhereTold-map o.taken_before o.taken_after (TakesTrace w) (Headline w (certificate_in x)) trace_headline ends);
         alias = λ arc ordinal e. absurd (subst IsDone e tt);
         torn = λ e. absurd (subst IsDone e tt);
-        stopped = λ e. absurd (subst IsDone e tt);
-        nothing = λ p q r n. absurd (p refl);
+        nothing = λ p q n. absurd (p refl);
       }
       run_leaves (status.Alias arc ordinal) ends = record {
         done = λ e. absurd (subst IsAlias e tt);
         alias = λ a i e. (x, given, subst (λ t. RunEnds w t o.taken_before o.taken_after) e ends);
         torn = λ e. absurd (subst IsAlias e tt);
-        stopped = λ e. absurd (subst IsAlias e tt);
-        nothing = λ p q r n. absurd (n arc ordinal refl);
+        nothing = λ p q n. absurd (n arc ordinal refl);
       }
       run_leaves status.WriteFault ends = record {
         done = λ e. absurd (subst IsTorn e tt);
         alias = λ arc ordinal e. absurd (subst IsTorn e tt);
         torn = λ e. (x, given, ends);
-        stopped = λ e. absurd (subst IsTorn e tt);
-        nothing = λ p q r n. absurd (q refl);
+        nothing = λ p q n. absurd (q refl);
       }
       run_leaves status.Memory ends = record {
         done = λ e. absurd (subst IsMemory e tt);
         alias = λ arc ordinal e. absurd (subst IsMemory e tt);
         torn = λ e. absurd (subst IsMemory e tt);
-        stopped = λ e. inr (x, given, ends);
-        nothing = λ p q r n. absurd (r refl);
+        nothing = λ p q n. ends;
       }
       run_leaves status.Words ends = absurd ends
       run_leaves status.ReadFault ends = absurd ends

@@ -1,5 +1,5 @@
 -- What a run told, as what its sink took.
-use Rattle.std.proofs.Common.{◌≡◌, ℕ, List, [], ◌∷◌, ◌++◌, Option, None, Some, refl, sym, ◌∙◌, ap, inl, inr, subst, append_assoc, arith}
+use Rattle.std.proofs.Common.{◌≡◌, ℕ, List, [], ◌∷◌, ◌++◌, Option, None, Some, refl, sym, ◌∙◌, ap, inl, inr, subst, append_assoc}
 use Rattle.std.proofs.lemmas.List.{append-nil}
 use Rattle.pre_base.specs.declared.numbers.ArcId.{ArcId}
 use Rattle.pre_base.specs.Told.{WhereTold, WhereTold-join, StillTells}
@@ -14,7 +14,7 @@ use Rattle.pre_trace.specs.Watching.{HoldsText, HoldsTorn}
 use Rattle.pre_history.specs.Deliveries.{DeliversOnce}
 use Rattle.pre_history.specs.Legal.{Legal, LegalBefore}
 use Rattle.pre_sim.specs.declared.runs.Step.{Step}
-use Rattle.pre_sim.specs.declared.runs.Step.TheVariants.{More, Ended, Alias, Stopped, Memory}
+use Rattle.pre_sim.specs.declared.runs.Step.TheVariants.{More, Ended, Alias, Stopped}
 use Rattle.pre_sim.specs.Parts.{IsFrontOfLegal}
 use Rattle.pre_sim.specs.Telling.{TellsAll}
 use Rattle.pre_sim.specs.Views.{SimView, HasTold}
@@ -49,12 +49,6 @@ module _ (w : Scenario) (once : DeliverOnce w) where
   whole_text None (Some y) still es told legal = absurd still
   whole_text (Some x) None still es told legal = absurd still
   whole_text (Some x) (Some y) still es told legal = (es, legal, once.whole es legal, told.0, taken w.net x y es told)
-
-  front_text : (a b : Option Taken) → StillTells a b → (es : History) → TellsAll w.net (HoldsText w.net a) (HoldsText w.net b) es → IsFrontOfLegal w es → WhereTold a b (TakesTextFront w)
-  front_text None None still es told front = tt
-  front_text None (Some y) still es told front = absurd still
-  front_text (Some x) None still es told front = absurd still
-  front_text (Some x) (Some y) still es told (more, so_far) = (es ++ more, text w.net more, so_far, delivers w once (es ++ more) so_far, (text w.net es, text-append w.net es more, taken w.net x y es told))
 
   torn_text : (a b : Option Taken) → StillTells a b → (es : History) (e : PlainEvent) → AreWritten w.net es → IsWritten w.net e
       → ((base : List ℕ) (h : History) → HoldsText w.net a base h → HoldsTorn w.net b base (h ++ es) e) → IsFrontOfLegal w (es ++ e ∷ []) → WhereTold a b (TakesTextFront w)
@@ -100,8 +94,6 @@ module _ (w : Scenario) (once : DeliverOnce w) where
         text_before a b still arc.0 ordinal es (subst (λ (v : Scenario). TellsAll v.net (HoldsText w.net a) (HoldsText w.net b) es) same told) before
     run_leaves Stopped a b still last (es, e, all, one, torn, front) =
         torn_text a b still es e (subst (λ (v : Scenario). AreWritten v.net es) same all) (subst (λ (v : Scenario). IsWritten v.net e) same one) torn (subst (λ (v : Scenario). IsFrontOfLegal v (es ++ e ∷ [])) same (front [] begun))
-    run_leaves Memory a b still last (es, told, front) =
-        front_text a b still es (subst (λ (v : Scenario). TellsAll v.net (HoldsText w.net a) (HoldsText w.net b) es) same told) (subst (λ (v : Scenario). IsFrontOfLegal v es) same (front [] begun))
 
 -- a run comes to what its last step says, whatever its watcher holds
 module _ (w : Scenario) (s u : SimView) (same : s.run ≡ w) (begun : HasTold s []) where
@@ -110,15 +102,6 @@ module _ (w : Scenario) (s u : SimView) (same : s.run ≡ w) (begun : HasTold s 
   run_comes Ended a b torn last (es, told, ends) = (es, subst (λ (v : Scenario). Legal v es) same (ends [] begun))
   run_comes (Alias arc ordinal) a b torn last (es, told, first) = (es, subst (λ (v : Scenario). IsBeforeAlias v arc.0 ordinal es) same (first [] begun))
   run_comes Stopped a b torn last told = tt
-  run_comes Memory a b torn last told = tt
-
--- nothing was told yet
-nothing_legal : (w : Scenario) → LegalBefore w [] 0
-nothing_legal w = (refl, λ a k d lt. absurd (omega (arith, lt)))
-
-pub nothing_left : (w : Scenario) → DeliverOnce w → (a : Option Taken) → WhereTold a a (TakesTextFront w)
-nothing_left w once None = tt
-nothing_left w once (Some x) = ([], [], inr (0, nothing_legal w), once.so_far 0 [] (nothing_legal w), ([], refl, sym (append-nil x.octets)))
 
 -- ---- passed on
 

@@ -1,5 +1,5 @@
 -- What the command that runs a script under a certificate reads, answers and leaves.
-use Rattle.std.specs.Prelude.{◌≡◌, ◌≢◌, ◌⊎◌, ℕ, List, Some, None, Ok, Err}
+use Rattle.std.specs.Prelude.{◌≡◌, ◌≢◌, ◌⊎◌, ℕ, List, None, Ok, Err}
 use Rattle.std.specs.FinMap.{get}
 use Rattle.pre_base.specs.Shelves.{Files}
 use Rattle.pre_base.specs.declared.numbers.ArcId.{ArcId}
@@ -85,13 +85,12 @@ ReplayingCause words s o = EndsCause (replaying words) (λ x t. RunsTo (scenario
 -- ---- what the sink took
 
 -- What the sink took, by the answer: on Done the trace of the run, of which the headline holds; on Alias the trace before that
--- arrival; a front of a trace where writing failed; nothing or a front of it where memory ran out; and else nothing.
+-- arrival; a front of a trace where writing failed; and else nothing.
 pub record ReplayingLeaves (words : ReplayWords) (s : Status) (o : Outside) : Type 0 where
   pub done : s ≡ status.Done → Took (replaying words) o (λ x. Headline (scenario_in x) (certificate_in x))
   pub alias : (arc : ArcId) (ordinal : ℕ) → s ≡ status.Alias arc ordinal → Took (replaying words) o (λ x. TakesTraceBefore (scenario_in x) arc.0 ordinal)
   pub torn : s ≡ status.WriteFault → Took (replaying words) o (λ x. TakesTextFront (scenario_in x))
-  pub stopped : s ≡ status.Memory → (o.taken_after ≡ o.taken_before) ⊎ Took (replaying words) o (λ x. TakesTextFront (scenario_in x))
-  pub nothing : s ≢ status.Done → s ≢ status.WriteFault → s ≢ status.Memory → ((arc : ArcId) (ordinal : ℕ) → s ≢ status.Alias arc ordinal) → o.taken_after ≡ o.taken_before
+  pub nothing : s ≢ status.Done → s ≢ status.WriteFault → ((arc : ArcId) (ordinal : ℕ) → s ≢ status.Alias arc ordinal) → o.taken_after ≡ o.taken_before
 
 -- What that means where the shelf tells these files, and the sink what it had and what it has: on Done the files spell a network,
 -- streams, a certificate and a script, of which the headline holds.

@@ -5,7 +5,7 @@ use Rattle.pre_base.specs.Told.{WhereTold}
 use Rattle.pre_base.specs.Sinks.{Taken}
 use Rattle.pre_history.specs.Scenario.{Scenario}
 use Rattle.pre_sim.specs.declared.runs.Step.{Step}
-use Rattle.pre_sim.specs.declared.runs.Step.TheVariants.{More, Ended, Alias, Stopped, Memory}
+use Rattle.pre_sim.specs.declared.runs.Step.TheVariants.{More, Ended, Alias, Stopped}
 use Rattle.pre_cli.specs.declared.statuses.Status.{Status}
 use Rattle.pre_cli.specs.declared.statuses.Status.TheVariants as status
 use Rattle.pre_cli.specs.Written.{HasHistory, IsFirstAlias, TakesText, TakesTrace, TakesTextBefore, TakesTraceBefore, TakesTextFront}
@@ -15,7 +15,6 @@ RunLeaves w More old new = ⊥
 RunLeaves w Ended old new = WhereTold old new (TakesText w)
 RunLeaves w (Alias arc ordinal) old new = WhereTold old new (TakesTextBefore w arc.0 ordinal)
 RunLeaves w Stopped old new = WhereTold old new (TakesTextFront w)
-RunLeaves w Memory old new = WhereTold old new (TakesTextFront w)
 
 -- a run ends where there is a legal history, and stops before an arrival where that is the first alias
 abbrev pub RunComesTo : Scenario → Step → Type 0
@@ -23,14 +22,14 @@ RunComesTo w More = ⊥
 RunComesTo w Ended = HasHistory w
 RunComesTo w (Alias arc ordinal) = IsFirstAlias w arc.0 ordinal
 RunComesTo w Stopped = Unit {0}
-RunComesTo w Memory = Unit {0}
 
--- What it left by the status that it gives, flushed where all was done, or all before the first alias.
+-- What it left by the status that it gives, flushed where all was done, or all before the first alias. Where memory ran out
+-- nothing was run.
 abbrev pub RunEnds : Scenario → Status → Option Taken → Option Taken → Type 0
 RunEnds w status.Done old new = WhereTold old new (TakesTrace w)
 RunEnds w (status.Alias arc ordinal) old new = WhereTold old new (TakesTraceBefore w arc.0 ordinal)
 RunEnds w status.WriteFault old new = WhereTold old new (TakesTextFront w)
-RunEnds w status.Memory old new = WhereTold old new (TakesTextFront w)
+RunEnds w status.Memory old new = new ≡ old
 RunEnds w status.Words old new = ⊥
 RunEnds w (status.Rejected clause row) old new = ⊥
 RunEnds w (status.Unruly line) old new = ⊥

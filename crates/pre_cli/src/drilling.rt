@@ -1,4 +1,4 @@
-ghost use Rattle.std.specs.Prelude.{◌≡◌, ◌≢◌, ◌≤◌, [], length};
+ghost use Rattle.std.specs.Prelude.{◌≡◌, ◌≢◌, ◌≤◌, IfOk, [], length};
 ghost use Rattle.pre_sim.specs.Reach.{AllFit};
 ghost use Rattle.pre_delay.specs.Runs.{IsRun};
 ghost use Rattle.pre_plant.specs.Plants.{IsPlant};
@@ -24,30 +24,28 @@ use pre_sim::{Sim, Step, network_law};
 use pre_streams::Streams;
 use pre_topo::Network;
 use pre_trace::{Summary, closings_are_few, put_summary};
-use std::alloc::Global;
+use std::alloc::{AllocError, Global};
 
-/// Runs the script, and sums up what the run tells: the last step's answer.
+/// Runs the script, and sums up what the run tells: the last step's answer. An error is want of memory for the run.
 fn run_summed(
     alloc: Global,
     net: &Network,
     streams: &Streams,
     script: &Script,
     summary: &mut Summary,
-) -> Step
+) -> Result<Step, AllocError>
     requires fit { AllFit net.now streams.now script.now }
     requires script { summary.old.script.now ≡ script.now }
     requires nothing { Sums script.now summary.old.tallies summary.old.slots summary.old.kept [] }
-    ensures last { result ≢ Step.More }
-    ensures goes { result ≢ Step.Stopped }
-    ensures comes { RunComesTo (record { net = net.now; streams = streams.now; script = script.now }) result }
-    ensures ended { result ≡ Step.Ended → HasSummed (record { net = net.now; streams = streams.now; script = script.now }) summary.new }
+    ensures last { IfOk result (λ step. step ≢ Step.More) }
+    ensures goes { IfOk result (λ step. step ≢ Step.Stopped) }
+    ensures comes { IfOk result (RunComesTo (record { net = net.now; streams = streams.now; script = script.now })) }
+    ensures ended { IfOk result (λ step. step ≡ Step.Ended → HasSummed (record { net = net.now; streams = streams.now; script = script.now }) summary.new) }
     ensures script { summary.new.script.now ≡ script.now }
     ensures rows { length summary.new.tallies ≡ length summary.old.tallies }
 {
-    let Ok(mut sim) = Sim::make(alloc, net, streams, script) else {
-        return Step::Memory;
-    };
-    run_on(&mut sim, summary)
+    let mut sim = Sim::make(alloc, net, streams, script)?;
+    Ok(run_on(&mut sim, summary))
 }
 
 /// Writes the summary of a run that has ended, and passes it on.
@@ -104,11 +102,11 @@ fn drill_certified<S: Sink>(
         return Status::Memory;
     };
     match run_summed(alloc, net, streams, script, &mut summary) {
-        Step::Ended => put_drilled(number, net, streams, certificate, &summary, sink),
-        Step::Alias { arc, ordinal } => Status::Alias { arc, ordinal },
-        Step::Memory => Status::Memory,
-        Step::Stopped => unreachable!(),
-        Step::More => unreachable!(),
+        Ok(Step::Ended) => put_drilled(number, net, streams, certificate, &summary, sink),
+        Ok(Step::Alias { arc, ordinal }) => Status::Alias { arc, ordinal },
+        Ok(Step::Stopped) => unreachable!(),
+        Ok(Step::More) => unreachable!(),
+        Err(_) => Status::Memory,
     }
 }
 

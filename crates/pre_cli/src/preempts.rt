@@ -24,9 +24,9 @@ use std::alloc::Global;
 /// text and nothing else, flushed. Of `replay` that is the text of a legal history of what the four texts say to run, of which
 /// the headline holds: under a good certificate express frames arrive within their printed bounds, queues stay within their
 /// printed sizes, each delivery is a frame that was sent, octet for octet, and none is delivered twice. Of `mpackets` it is
-/// the listing, of `drill` the summary, of `certify` the text of a certificate that is good and least, and of `migrate` that of the one that was
-/// read. On Alias it took the text of the history before that arrival, flushed. Where writing failed, or memory ran out in a
-/// run, the sink took a front of such a text, and else nothing.
+/// the listing, of `certify` the text of a certificate that is good and least, and of `migrate` that of the one that was
+/// read. On Alias it took the text of the history before that arrival, flushed. Where writing failed, the sink took a front
+/// of such a text, and else nothing.
 pub fn preempt<H: Shelf, S: Sink>(
     alloc: Global,
     words: &[String],

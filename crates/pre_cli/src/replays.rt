@@ -1,4 +1,4 @@
-ghost use Rattle.std.specs.Prelude.{◌≡◌, ◌≤◌, ◌≢◌, true, None, IfOk, IfErr};
+ghost use Rattle.std.specs.Prelude.{◌≡◌, ◌≤◌, ◌≢◌, true, None, IfOk, IfErr, OnErr};
 ghost use Rattle.pre_base.specs.Told.{WhereTold};
 ghost use Rattle.pre_bound.specs.Listed.{GoodCertificate};
 ghost use Rattle.pre_delay.specs.Runs.{IsRun};
@@ -26,7 +26,7 @@ use pre_sim::{Sim, Step, network_law};
 use pre_streams::Streams;
 use pre_topo::Network;
 use pre_trace::{TraceWatcher, Watcher};
-use std::alloc::Global;
+use std::alloc::{AllocError, Global};
 
 /// Does all the steps of a run: the last one's answer.
 pub(crate) fn run_on<W: Watcher>(sim: &mut Sim, watcher: &mut W) -> Step
@@ -44,27 +44,26 @@ pub(crate) fn run_on<W: Watcher>(sim: &mut Sim, watcher: &mut W) -> Step
     }
 }
 
-/// Runs the script and writes its trace: the last step's answer.
+/// Runs the script and writes its trace: the last step's answer. Without memory for the run the sink is left alone.
 pub(crate) fn run<S: Sink>(
     alloc: Global,
     net: &Network,
     streams: &Streams,
     script: &Script,
     sink: &mut S,
-) -> Step
+) -> Result<Step, AllocError>
     requires { AllFit net.now streams.now script.now }
-    ensures last { result ≢ Step.More }
-    ensures cause { StepCause result (S.faults sink.old) (S.faults sink.new) }
-    ensures comes { RunComesTo (record { net = net.now; streams = streams.now; script = script.now }) result }
-    ensures octets { RunLeaves (record { net = net.now; streams = streams.now; script = script.now }) result (S.tells sink.old) (S.tells sink.new) }
+    ensures last { IfOk result (λ step. step ≢ Step.More) }
+    ensures cause { IfOk result (λ step. StepCause step (S.faults sink.old) (S.faults sink.new)) }
+    ensures comes { IfOk result (RunComesTo (record { net = net.now; streams = streams.now; script = script.now })) }
+    ensures octets { IfOk result (λ step. RunLeaves (record { net = net.now; streams = streams.now; script = script.now }) step (S.tells sink.old) (S.tells sink.new)) }
+    ensures untouched { OnErr result (sink.new ≡ sink.old) }
 {
     files_give_routes();
     deliveries_are_of_frames_sent();
-    let Ok(mut sim) = Sim::make(alloc, net, streams, script) else {
-        return Step::Memory;
-    };
+    let mut sim = Sim::make(alloc, net, streams, script)?;
     let mut watcher = TraceWatcher::over(sink, net);
-    run_on(&mut sim, &mut watcher)
+    Ok(run_on(&mut sim, &mut watcher))
 }
 
 /// Passes on what was written: the status given, or that the sink failed.
@@ -90,11 +89,11 @@ fn trace<S: Sink>(
     ensures cause { RunCause (record { net = net.now; streams = streams.now; script = script.now }) result (S.faults sink.old) (S.faults sink.new) }
 {
     match run(alloc, net, streams, script, sink) {
-        Step::Ended => flushed(sink, Status::Done),
-        Step::Alias { arc, ordinal } => flushed(sink, Status::Alias { arc, ordinal }),
-        Step::Stopped => Status::WriteFault,
-        Step::Memory => Status::Memory,
-        Step::More => unreachable!(),
+        Ok(Step::Ended) => flushed(sink, Status::Done),
+        Ok(Step::Alias { arc, ordinal }) => flushed(sink, Status::Alias { arc, ordinal }),
+        Ok(Step::Stopped) => Status::WriteFault,
+        Ok(Step::More) => unreachable!(),
+        Err(_) => Status::Memory,
     }
 }
 

@@ -73,9 +73,9 @@ struct OctetShelf {
 impl Shelf for OctetShelf {
     ghost tells = { λ s. None };
 
-    ghost handed = { λ s. MemoryShelf.handed s.files };
+    ghost handed = { λ s. s.files.handed };
 
-    ghost faults = { λ s. MemoryShelf.faults s.files };
+    ghost faults = { λ s. s.files.faults };
 
     fn select(&mut self, name: &str) -> Result<(), Failed> {
         self.files.select(name)

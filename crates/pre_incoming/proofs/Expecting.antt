@@ -14,7 +14,7 @@ use Rattle.pre_history.proofs.Lists.{every_at}
 use Rattle.pre_laws.specs.Routed.{IsRouted}
 use Rattle.pre_history.proofs.Aliases.{IsLastBy}
 use Rattle.pre_laws.proofs.Routed.{BegunRight, begins_right, all_right}
-use Rattle.pre_incoming.specs.declared.wires.OnWire.{OnWire}
+use Rattle.pre_incoming.specs.Flights.{OnWire}
 use Rattle.pre_incoming.specs.Judging.{expected, expected_of}
 use Rattle.pre_incoming.specs.Wires.{IsOnWire}
 use Rattle.pre_incoming.proofs.NextOne.{at_begin, lldp_behind}
@@ -38,7 +38,7 @@ module _ (w : Scenario) (routed : IsRouted w) (n : ℕ) (h : History) (legal : L
       let right = every_at (BegunRight w a) (Begins h a) (length (Arrivals h a)) on.begin (begins_right w h a (all_right w routed n h legal)) (at_begin w n h legal a a_lt e p at_e on) in
       (right.on f is).known
 
-  of_what : (x : What) → on.begin.what ≡ x → x ≢ what.Nothing → expected_of w x p.octets.items ≡ Some (WholeOf w h on.begin)
+  of_what : (x : What) → on.begin.what ≡ x → x ≢ what.Nothing → expected_of w x p.octets ≡ Some (WholeOf w h on.begin)
   of_what (what.Frame f) is some =
       ap (λ (v : Bool). if v then Some (FrameOf w f.0) else None) (is_lt f.0 (length w.script.sends) (known f is)) ∙ ap Some (sym (ap (whole_of w h on.begin) is))
     where
@@ -47,20 +47,20 @@ module _ (w : Scenario) (routed : IsRouted w) (n : ℕ) (h : History) (legal : L
   of_what what.Lldp is some = lldp_behind w n h legal a a_lt e p at_e on is
   of_what what.Nothing is some = absurd (some refl)
 
-  expects : expected w p ≡ (if on.begin.from + e.size == length (WholeOf w h on.begin) then expected_of w on.begin.what p.octets.items else None)
-  expects = ap (λ (v : Bool). if v then expected_of w p.what p.octets.items else None) (told p.is_last (on.begin.from + e.size) (length (WholeOf w h on.begin)) on.is_last)
-      ∙ ap (λ (x : What). if on.begin.from + e.size == length (WholeOf w h on.begin) then expected_of w x p.octets.items else None) on.carries
+  expects : expected w p ≡ (if on.begin.from + e.size == length (WholeOf w h on.begin) then expected_of w on.begin.what p.octets else None)
+  expects = ap (λ (v : Bool). if v then expected_of w p.what p.octets else None) (told p.is_last (on.begin.from + e.size) (length (WholeOf w h on.begin)) on.is_last)
+      ∙ ap (λ (x : What). if on.begin.from + e.size == length (WholeOf w h on.begin) then expected_of w x p.octets else None) on.carries
 
   -- what is expected is the frame whose last octets it has
   pub is_last : (octets : List ℕ) → expected w p ≡ Some octets → IsLastBy (WholeOf w h on.begin) on.begin e octets
   is_last octets is = go (on.begin.from + e.size == length (WholeOf w h on.begin)) refl (sym expects ∙ is)
     where
-      some_what : (x : What) → expected_of w x p.octets.items ≡ Some octets → x ≢ what.Nothing
+      some_what : (x : What) → expected_of w x p.octets ≡ Some octets → x ≢ what.Nothing
       some_what (what.Frame f) is nothing = cc nothing
       some_what what.Lldp is nothing = cc nothing
       some_what what.Nothing is nothing = cc is
 
-      go : (v : Bool) → (on.begin.from + e.size == length (WholeOf w h on.begin)) ≡ v → (if v then expected_of w on.begin.what p.octets.items else None) ≡ Some octets
+      go : (v : Bool) → (on.begin.from + e.size == length (WholeOf w h on.begin)) ≡ v → (if v then expected_of w on.begin.what p.octets else None) ≡ Some octets
           → IsLastBy (WholeOf w h on.begin) on.begin e octets
       go false test is = absurd (cc is)
       go true test is =
@@ -74,7 +74,7 @@ module _ (w : Scenario) (routed : IsRouted w) (n : ℕ) (h : History) (legal : L
   pub is_expected : (octets : List ℕ) → IsLastBy (WholeOf w h on.begin) on.begin e octets → expected w p ≡ Some octets
   is_expected octets (some, whole, full) =
       let test : (on.begin.from + e.size == length (WholeOf w h on.begin)) ≡ true = is_eq (on.begin.from + e.size) (length (WholeOf w h on.begin)) (full ∙ ap length whole) in
-      expects ∙ (ap (λ (v : Bool). if v then expected_of w on.begin.what p.octets.items else None) test ∙ (of_what on.begin.what refl some ∙ ap Some (sym whole)))
+      expects ∙ (ap (λ (v : Bool). if v then expected_of w on.begin.what p.octets else None) test ∙ (of_what on.begin.what refl some ∙ ap Some (sym whole)))
     where
       is_eq : (x y : ℕ) → x ≡ y → (x == y) ≡ true
       is_eq x y same = grind (arith, nat_tests)

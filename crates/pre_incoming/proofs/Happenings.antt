@@ -28,7 +28,7 @@ use Rattle.pre_incoming.specs.declared.incomings.Incoming.{Incoming}
 use Rattle.pre_incoming.specs.declared.landings.Landed.{Landed}
 use Rattle.pre_incoming.specs.declared.landings.Landed.TheVariants as landed
 use Rattle.pre_incoming.specs.declared.landings.Landing.{Landing}
-use Rattle.pre_incoming.specs.declared.wires.OnWire.{OnWire}
+use Rattle.pre_incoming.specs.Flights.{OnWire, on_wire, IsWhole, HasRoom}
 use Rattle.pre_incoming.specs.Arriving.{arrived, Comes, HasFront, IsNotDue}
 use Rattle.pre_incoming.specs.Changes.{loses}
 use Rattle.pre_incoming.specs.Landings.{GoesOn, IsGiven, IsNext, LandsAs, delivery, events, result_of}
@@ -42,12 +42,6 @@ use Rattle.pre_incoming.proofs.Verdicts.{IsVerdict, lost_one, by_answer}
 -- a lost arrival leaves a receiver as it was
 abbrev pub LostLaw : Type 0
 LostLaw = (r : Receiver) (A : List (Option (List ℕ))) → Stands r A → Stands r (A ++ None ∷ [])
-
-same_end : (w : Scenario) (h : History) (a : ℕ) (x y : Incoming) → Receives w h a x → y.wire.items ≡ x.wire.items → y.receiver ≡ x.receiver → Receives w h a y
-same_end w h a x y is wire receiver = record {
-  receiver = subst (λ (r : Receiver). Stands r (take (length (Arrivals h a)) (Air w h a))) (sym receiver) is.receiver;
-  wire = subst (λ ps. AllZip (IsOnWire w h a) ps (drop (length (Arrivals h a)) (Ends h a))) (sym wire) is.wire;
-}
 
 -- what was given and isn't an alias
 as_landed : (w : Scenario) (h : History) (t a : ℕ) (x : Landing) (into : List ℕ) (new : Incoming) (g : Landed) → g ≢ landed.Alias → IsNext w h t a x → GoesOn w h t a (events w h t a x) new
@@ -80,21 +74,22 @@ module _ (w : Scenario) (h : History) (t a : ℕ) (a_lt : a < length w.net.arcs)
     | inr few ↦ arrives_none w h t a a_lt legal.0 few
   ]
 
-  pub none_lands : (old new : Incoming) → Receives w h a old → IsNotDue t old.wire.items → new.wire.items ≡ old.wire.items → new.receiver ≡ old.receiver → GoesOn w h t a [] new
-  none_lands old new is far wire receiver =
-      let later = later_by old.wire.items is.wire far in
+  pub none_lands : (x : Incoming) → Receives w h a x → IsNotDue t (on_wire x.wire) → GoesOn w h t a [] x
+  none_lands x is far =
+      let later = later_by (on_wire x.wire) is.wire far in
       let happens = nothing_happens later in
       record {
         happens = happens;
         legal = at_arrivals w h [] t a a_lt legal happens (λ e at due alias. later e at due);
-        receives = subst (λ (g : History). Receives w g a new) (sym (append-nil h)) (same_end w h a old new is wire receiver);
+        receives = subst (λ (g : History). Receives w g a x) (sym (append-nil h)) is;
       }
 
   -- ---- one is due
 
-  module _ (routed : IsRouted w) (p : OnWire) (old new : Incoming) (is : Receives w h a old) (wire : old.wire.items ≡ p ∷ new.wire.items) (due : p.due.0 ≡ t) where
-    next : (e : Ended) × (slice_get (Ends h a) k ≡ Some e) × IsOnWire w h a p e × AllZip (IsOnWire w h a) new.wire.items (drop (suc k) (Ends h a))
-    next = first_of (IsOnWire w h a) k p new.wire.items (Ends h a) (subst (λ ps. AllZip (IsOnWire w h a) ps (drop k (Ends h a))) wire is.wire)
+  module _ (routed : IsRouted w) (p : OnWire) (old new : Incoming) (is : Receives w h a old) (wire : (on_wire old.wire) ≡ p ∷ (on_wire new.wire)) (whole : IsWhole new.wire)
+      (room : HasRoom (arc w a).delay (arc w a).cost new.wire) (due : p.due.0 ≡ t) where
+    next : (e : Ended) × (slice_get (Ends h a) k ≡ Some e) × IsOnWire w h a p e × AllZip (IsOnWire w h a) (on_wire new.wire) (drop (suc k) (Ends h a))
+    next = first_of (IsOnWire w h a) k p (on_wire new.wire) (Ends h a) (subst (λ ps. AllZip (IsOnWire w h a) ps (drop k (Ends h a))) wire is.wire)
 
     due_now : next.0.tick + (arc w a).delay ≡ t
     due_now = sym next.2.due ∙ due
@@ -110,9 +105,9 @@ module _ (w : Scenario) (h : History) (t a : ℕ) (a_lt : a < length w.net.arcs)
           legal = at_arrivals w h es t a a_lt legal happens (λ d at now alias. verdict.none alias);
           receives = by_lists w (h ++ es) a (suc k) (Ends h a) (take (suc k) (Air w h a)) new more
               (filter_map-append (ended_on a) h es ∙ no_append (Ends h a) (Ends es a) (no_ends w h t a a k x.given))
-              (air_front w (moment_of w t (Phase.arrivals a)) (suc (moment_of w t (Phase.arrivals a))) h es legal.0 later a a_lt (suc k) (within (Ends h a) k next.0 next.1)) stands
+              (air_front w (moment_of w t (Phase.arrivals a)) (suc (moment_of w t (Phase.arrivals a))) h es legal.0 later a a_lt (suc k) (within (Ends h a) k next.0 next.1)) whole room stands
               (zip_weaker (IsOnWire w h a) (IsOnWire w (h ++ es) a) (still_on_wire w (moment_of w t (Phase.arrivals a))
-              (suc (moment_of w t (Phase.arrivals a))) h es legal.0 later a a_lt) new.wire.items (drop (suc k) (Ends h a)) next.3);
+              (suc (moment_of w t (Phase.arrivals a))) h es legal.0 later a a_lt) (on_wire new.wire) (drop (suc k) (Ends h a)) next.3);
         })
       where
         es : History

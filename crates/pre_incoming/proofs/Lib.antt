@@ -1,3 +1,4 @@
+pub mod TakenApart
 pub mod Building
 pub mod Counted
 pub mod Damaging

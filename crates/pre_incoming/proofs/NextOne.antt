@@ -28,7 +28,7 @@ use Rattle.pre_history.proofs.Placing.{begins_arc}
 use Rattle.pre_history.proofs.Undamaged.{air_at}
 use Rattle.pre_laws.proofs.Begun.{by_item, choice_of}
 use Rattle.pre_history.proofs.Known.{gives_later}
-use Rattle.pre_incoming.specs.declared.wires.OnWire.{OnWire}
+use Rattle.pre_incoming.specs.Flights.{OnWire}
 use Rattle.pre_incoming.specs.Arriving.{arrived}
 use Rattle.pre_incoming.specs.Changes.{loses, damaged_by}
 use Rattle.pre_incoming.specs.Judging.{behind_head}
@@ -132,7 +132,7 @@ module _ (w : Scenario) (n : ℕ) (h : History) (legal : LegalUpTo w n h) (a : �
       ap (λ (x : What). length (whole_of w h on.begin x)) is
       ∙ sent-length (arc w on.begin.arc).from.0 on.begin.arc (AdvertAt w h on.begin.arc on.begin.tick) (omega (arith, begin_arc, a_lt, w.net.rules.arc_count.1))
 
-  lldp_sent : on.begin.what ≡ what.Lldp → p.octets.items ≡ head_of kind.Express ++ WholeOf w h on.begin
+  lldp_sent : on.begin.what ≡ what.Lldp → p.octets ≡ head_of kind.Express ++ WholeOf w h on.begin
   lldp_sent is =
       let begins = lldp_begins is in
       let whole : List ℕ = WholeOf w h on.begin in
@@ -152,5 +152,5 @@ module _ (w : Scenario) (n : ℕ) (h : History) (legal : LegalUpTo w n h) (a : �
       is_eq x y same = grind (arith, nat_tests)
 
   -- what it gives where it arrives as it was sent
-  pub lldp_behind : on.begin.what ≡ what.Lldp → behind_head p.octets.items ≡ Some (WholeOf w h on.begin)
-  lldp_behind is = behind p.octets.items (WholeOf w h on.begin) (lldp_sent is) (lldp_long is)
+  pub lldp_behind : on.begin.what ≡ what.Lldp → behind_head p.octets ≡ Some (WholeOf w h on.begin)
+  lldp_behind is = behind p.octets (WholeOf w h on.begin) (lldp_sent is) (lldp_long is)

@@ -6,7 +6,7 @@ use Rattle.std.proofs.lemmas.List.Elements.{filter_map-append}
 use Rattle.std.proofs.lemmas.List.{length-map}
 use Rattle.pre_mpacket.specs.Spelling.{head_of}
 use Rattle.pre_receive.specs.Receivers.{Stands}
-use Rattle.pre_history.specs.Scenario.{Scenario}
+use Rattle.pre_history.specs.Scenario.{Scenario, arc}
 use Rattle.pre_history.specs.History.{Begin, Ended, History}
 use Rattle.pre_history.specs.Selected.{begin_on, ended_on, arrive_on}
 use Rattle.pre_history.specs.Queries.{Begins, Ends, Arrivals, Packets, packet}
@@ -17,7 +17,7 @@ use Rattle.pre_history.proofs.Chosen.{take_like}
 use Rattle.pre_history.proofs.InOrder.{steady}
 use Rattle.pre_history.specs.Placed.{AllWithin}
 use Rattle.pre_history.proofs.AirStays.{air_stays, whole_stays}
-use Rattle.pre_incoming.specs.declared.wires.OnWire.{OnWire}
+use Rattle.pre_incoming.specs.Flights.{OnWire, on_wire, IsWhole, HasRoom}
 use Rattle.pre_incoming.specs.declared.incomings.Incoming.{Incoming}
 use Rattle.pre_incoming.specs.Wires.{IsOnWire, Receives}
 
@@ -49,10 +49,12 @@ none_of P (suc n) (y ∷ ys) all = let less = none_of P n ys all in omega (arith
 
 -- what an end of an arc stands for, by what has ended and arrived
 pub by_lists : (w : Scenario) (h : History) (a n : ℕ) (ends : List Ended) (air : List (Option (List ℕ))) (x : Incoming) → length (Arrivals h a) ≡ n → Ends h a ≡ ends → take n (Air w h a) ≡ air
-    → Stands x.receiver air → AllZip (IsOnWire w h a) x.wire.items (drop n ends) → Receives w h a x
-by_lists w h a n ends air x arrived ended same stands all = record {
+    → IsWhole x.wire → HasRoom (arc w a).delay (arc w a).cost x.wire → Stands x.receiver air → AllZip (IsOnWire w h a) (on_wire x.wire) (drop n ends) → Receives w h a x
+by_lists w h a n ends air x arrived ended same whole room stands all = record {
+  whole = whole;
+  room = room;
   receiver = subst (Stands x.receiver) (sym (ap (λ k. take k (Air w h a)) arrived ∙ same)) stands;
-  wire = subst (λ k. AllZip (IsOnWire w h a) x.wire.items (drop k (Ends h a))) (sym arrived) (subst (λ es. AllZip (IsOnWire w h a) x.wire.items (drop n es)) (sym ended) all);
+  wire = subst (λ k. AllZip (IsOnWire w h a) (on_wire x.wire) (drop k (Ends h a))) (sym arrived) (subst (λ es. AllZip (IsOnWire w h a) (on_wire x.wire) (drop n es)) (sym ended) all);
 }
 
 -- as many arrived as there are on the air
@@ -100,5 +102,5 @@ module _ (w : Scenario) (m n : ℕ) (h g : History) (legal : LegalUpTo w m h) (l
       by_lists w (h ++ g) a (length (Arrivals h a)) (Ends h a) (take (length (Arrivals h a)) (Air w h a)) x
       (ap length (filter_map-append (arrive_on a) h g ∙ no_append (Arrivals h a) (Arrivals g a) no_arrival))
       (filter_map-append (ended_on a) h g ∙ no_append (Ends h a) (Ends g a) no_end)
-      (air_front (length (Arrivals h a)) arrived_ended) is.receiver
-      (zip_weaker (IsOnWire w h a) (IsOnWire w (h ++ g) a) still_on_wire x.wire.items (drop (length (Arrivals h a)) (Ends h a)) is.wire)
+      (air_front (length (Arrivals h a)) arrived_ended) is.whole is.room is.receiver
+      (zip_weaker (IsOnWire w h a) (IsOnWire w (h ++ g) a) still_on_wire (on_wire x.wire) (drop (length (Arrivals h a)) (Ends h a)) is.wire)

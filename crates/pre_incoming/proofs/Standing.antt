@@ -6,7 +6,7 @@ use Rattle.std.proofs.lemmas.List.{drop-append-le, append-nil}
 use Rattle.std.proofs.lemmas.List.Elements.{filter_map-append}
 use Rattle.pre_receive.specs.declared.receivers.Receiver.{Receiver}
 use Rattle.pre_receive.specs.Receivers.{Stands}
-use Rattle.pre_history.specs.Scenario.{Scenario}
+use Rattle.pre_history.specs.Scenario.{Scenario, arc}
 use Rattle.pre_history.specs.History.{Ended, History, PlainEvent}
 use Rattle.pre_history.specs.Selected.{ended_on, arrive_on}
 use Rattle.pre_history.specs.Queries.{Ends, Arrivals}
@@ -15,24 +15,25 @@ use Rattle.pre_history.specs.Placed.{moment_of}
 use Rattle.pre_history.specs.Moments.{Phase}
 use Rattle.pre_history.specs.Legal.{LegalUpTo}
 use Rattle.pre_history.specs.Placed.{AllWithin}
-use Rattle.pre_incoming.specs.declared.wires.OnWire.{OnWire}
+use Rattle.pre_incoming.specs.Flights.{OnWire, on_wire, IsWhole, HasRoom}
 use Rattle.pre_incoming.specs.declared.incomings.Incoming.{Incoming}
 use Rattle.pre_incoming.specs.Wires.{IsOnWire, Receives}
 use Rattle.pre_incoming.proofs.OnAir.{zip_weaker, zip_push, by_lists, air_front, still_on_wire, arrived_ended}
 
 -- one more is on the wire
 pub pushed : (w : Scenario) (h : History) (a : ℕ) (e : Ended) (p : OnWire) (old new : Incoming) → a < length w.net.arcs → e.arc ≡ a → LegalUpTo w (moment_of w e.tick (Phase.ends a)) h
-    → IsOnWire w h a p e → Receives w h a old → new.receiver ≡ old.receiver → new.wire.items ≡ old.wire.items ++ p ∷ [] → Receives w (h ++ PlainEvent.ended e ∷ []) a new
-pushed w h a e p old new a_lt on_arc legal on is same longer =
+    → IsOnWire w h a p e → Receives w h a old → new.receiver ≡ old.receiver → IsWhole new.wire → HasRoom (arc w a).delay (arc w a).cost new.wire
+    → on_wire new.wire ≡ on_wire old.wire ++ p ∷ [] → Receives w (h ++ PlainEvent.ended e ∷ []) a new
+pushed w h a e p old new a_lt on_arc legal on is same whole room longer =
     by_lists w (h ++ g) a (length (Arrivals h a)) (Ends h a ++ e ∷ []) (take (length (Arrivals h a)) (Air w h a)) new
     (ap length (filter_map-append (arrive_on a) h g ∙ append-nil (Arrivals h a)))
     (filter_map-append (ended_on a) h g ∙ ap (λ es. Ends h a ++ es) only)
-    (air_front w m (suc m) h g legal later a a_lt (length (Arrivals h a)) ended)
+    (air_front w m (suc m) h g legal later a a_lt (length (Arrivals h a)) ended) whole room
     (subst (λ (r : Receiver). Stands r (take (length (Arrivals h a)) (Air w h a))) (sym same) is.receiver)
-    (subst (λ es. AllZip (IsOnWire w (h ++ g) a) new.wire.items es) (sym (drop-append-le (length (Arrivals h a)) (Ends h a) (e ∷ []) ended))
+    (subst (λ es. AllZip (IsOnWire w (h ++ g) a) (on_wire new.wire) es) (sym (drop-append-le (length (Arrivals h a)) (Ends h a) (e ∷ []) ended))
     (subst (λ ps. AllZip (IsOnWire w (h ++ g) a) ps (drop (length (Arrivals h a)) (Ends h a) ++ e ∷ [])) (sym longer)
-    (zip_push (IsOnWire w (h ++ g) a) old.wire.items (drop (length (Arrivals h a)) (Ends h a)) p e
-    (zip_weaker (IsOnWire w h a) (IsOnWire w (h ++ g) a) (still_on_wire w m (suc m) h g legal later a a_lt) old.wire.items (drop (length (Arrivals h a)) (Ends h a)) is.wire)
+    (zip_push (IsOnWire w (h ++ g) a) (on_wire old.wire) (drop (length (Arrivals h a)) (Ends h a)) p e
+    (zip_weaker (IsOnWire w h a) (IsOnWire w (h ++ g) a) (still_on_wire w m (suc m) h g legal later a a_lt) (on_wire old.wire) (drop (length (Arrivals h a)) (Ends h a)) is.wire)
     (still_on_wire w m (suc m) h g legal later a a_lt p e on))))
   where
     g : History

@@ -22,7 +22,7 @@ use Rattle.pre_history.proofs.Undamaged.{user_frame}
 use Rattle.pre_laws.specs.Routed.{IsRouted}
 use Rattle.pre_history.proofs.Aliases.{IsLastBy, kind_is, last_is}
 use Rattle.pre_history.proofs.Known.{one_given, sent_lldp}
-use Rattle.pre_incoming.specs.declared.wires.OnWire.{OnWire}
+use Rattle.pre_incoming.specs.Flights.{OnWire}
 use Rattle.pre_incoming.specs.declared.landings.Landed.{Landed}
 use Rattle.pre_incoming.specs.declared.landings.Landed.TheVariants as landed
 use Rattle.pre_incoming.specs.Arriving.{HasFront}

@@ -5,7 +5,9 @@ use Rattle.pre_receive.specs.Receivers.{Stands}
 use Rattle.pre_receive.specs.Takings.{Taking, IsTaken}
 use Rattle.pre_history.specs.Octets.{smd_place}
 use Rattle.pre_history.specs.Scenario.{Scenario}
-use Rattle.pre_incoming.specs.declared.wires.OnWire.{OnWire}
+use Rattle.pre_incoming.specs.Flights.{OnWire, on_wire, IsWhole}
+use Rattle.pre_incoming.specs.declared.incomings.Incoming.{Incoming}
+use Rattle.pre_incoming.specs.declared.landings.Landing.{Landing}
 use Rattle.pre_incoming.specs.declared.landings.Landed.{Landed}
 use Rattle.pre_incoming.specs.declared.landings.Landed.TheVariants as landed
 use Rattle.pre_incoming.specs.Changes.{loses, damaged}
@@ -14,7 +16,7 @@ use Rattle.pre_incoming.specs.Judging.{Judged, expected}
 module _ (w : Scenario) (a : ℕ) (p : OnWire) where
   -- the octets that arrive
   abbrev pub arrived : List ℕ
-  arrived = damaged w.script a p.ord (smd_place p.kind) p.octets.items
+  arrived = damaged w.script a p.ord (smd_place p.kind) p.octets
 
   -- It is taken behind these arrivals.
   pub record IsTakenBehind (A : List (Option (List ℕ))) (new : Receiver) (given : Landed) : Type 0 where
@@ -43,3 +45,12 @@ IsNotDue t (p ∷ wire) = p.due.0 ≢ t
 abbrev pub IsNextDue : ℕ → List OnWire → Type 0
 IsNextDue t [] = ⊥
 IsNextDue t (p ∷ wire) = p.due.0 ≡ t
+
+-- The first mPacket is off the wire, and its landing is what becomes of it; this stands at the front of the memory for a frame.
+pub record ComesOff (w : Scenario) (a : ℕ) (old new : Incoming) (x : Landing) (front : List ℕ) : Type 0 where
+  pub packet : OnWire
+  pub was : on_wire old.wire ≡ packet ∷ on_wire new.wire
+  pub whole : IsWhole new.wire
+  pub ord : x.ord ≡ packet.ord
+  pub comes : Comes w a packet old.receiver new.receiver x.given
+  pub front_is : HasFront w a packet front x.given

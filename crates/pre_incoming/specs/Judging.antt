@@ -8,7 +8,7 @@ use Rattle.pre_receive.specs.Takings.{Taking, gave, gave_nothing}
 use Rattle.pre_history.specs.declared.events.What.{What}
 use Rattle.pre_history.specs.declared.events.What.TheVariants as what
 use Rattle.pre_history.specs.Scenario.{Scenario, FrameOf}
-use Rattle.pre_incoming.specs.declared.wires.OnWire.{OnWire}
+use Rattle.pre_incoming.specs.Flights.{OnWire}
 use Rattle.pre_incoming.specs.declared.landings.Landed.{Landed}
 use Rattle.pre_incoming.specs.declared.landings.Landed.TheVariants as landed
 
@@ -24,7 +24,7 @@ module _ (w : Scenario) where
 
   -- the frame that an mPacket gives where it arrives as it was sent, if it has the frame's last octets
   abbrev pub expected : OnWire → Option (List ℕ)
-  expected p = if p.is_last then expected_of p.what p.octets.items else None
+  expected p = if p.is_last then expected_of p.what p.octets else None
 
 -- what is given with the last octets of this
 abbrev pub carried : What → Landed

@@ -1,3 +1,4 @@
+pub mod Flights
 pub mod Changes
 pub mod Inputs
 pub mod Judging

@@ -6,7 +6,7 @@ use Rattle.pre_history.specs.Scenario.{Scenario, arc}
 use Rattle.pre_history.specs.History.{Begin, Ended, History}
 use Rattle.pre_history.specs.Queries.{Begins, Ends, Arrivals}
 use Rattle.pre_history.specs.Octets.{Air, SentOctets, WholeOf}
-use Rattle.pre_incoming.specs.declared.wires.OnWire.{OnWire}
+use Rattle.pre_incoming.specs.Flights.{OnWire, on_wire, IsWhole, HasRoom}
 use Rattle.pre_incoming.specs.declared.incomings.Incoming.{Incoming}
 
 module _ (w : Scenario) (h : History) (a : ℕ) where
@@ -18,10 +18,12 @@ module _ (w : Scenario) (h : History) (a : ℕ) where
     pub kind : p.kind ≡ begin.kind
     pub carries : p.what ≡ begin.what
     pub is_last : IsTrue p.is_last ↔ (begin.from + e.size ≡ length (WholeOf w h begin))
-    pub octets : p.octets.items ≡ SentOctets w h begin e
+    pub octets : p.octets ≡ SentOctets w h begin e
     pub due : p.due.0 ≡ e.tick + (arc w a).delay
 
   -- What arrived is what the receiver took, and what ended since is on the wire, in order.
   pub record Receives (x : Incoming) : Type 0 where
+    pub whole : IsWhole x.wire
+    pub room : HasRoom (arc w a).delay (arc w a).cost x.wire
     pub receiver : Stands x.receiver (take (length (Arrivals h a)) (Air w h a))
-    pub wire : AllZip IsOnWire x.wire.items (drop (length (Arrivals h a)) (Ends h a))
+    pub wire : AllZip IsOnWire (on_wire x.wire) (drop (length (Arrivals h a)) (Ends h a))

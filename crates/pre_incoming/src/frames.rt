@@ -2,10 +2,11 @@ ghost use Rattle.std.specs.Prelude.{◌≡◌, ◌<◌, ◌≤◌, ◌++◌, IfS
 ghost use Rattle.pre_frame.specs.Layout.{IsFrameSize};
 ghost use Rattle.pre_streams.specs.Rows.{IsRow};
 ghost use Rattle.pre_history.specs.Scenario.{row, send, FrameOf};
+ghost use Rattle.pre_incoming.specs.Flights.{with_octets};
 ghost use Rattle.pre_incoming.specs.Inputs.{HasFrames, scenario_of};
 ghost use Rattle.pre_incoming.specs.Judging.{behind_head, expected};
 
-use crate::wires::OnWire;
+use crate::wires::Flight;
 use pre_base::{FrameNo, GREATEST_FRAME, HEAD, LEAST_FRAME, Prio};
 use pre_frame::build;
 use pre_history::What;
@@ -72,24 +73,25 @@ fn prio_of(row: &Row) -> Prio
 /// octets there are.
 pub(crate) fn put_expected(
     inputs: &Inputs,
-    packet: &OnWire,
+    flight: Flight,
+    octets: &[u8],
     into: &mut [u8; GREATEST_FRAME as usize],
 ) -> Option<usize>
     requires { HasFrames (scenario_of inputs.now) }
-    ensures octets { option_map (λ size. take size into.new) result ≡ expected (scenario_of inputs.now) packet.now }
+    ensures octets { option_map (λ size. take size into.new) result ≡ expected (scenario_of inputs.now) (with_octets flight octets.now) }
     ensures size { IfSome result IsFrameSize }
 {
-    if !packet.is_last {
+    if !flight.is_last {
         return None;
     }
-    match packet.what {
+    match flight.what {
         What::Frame(frame) => {
             if frame.0 as usize >= inputs.script.sends.len() {
                 return None;
             }
             Some(put_frame(inputs, frame, into))
         }
-        What::Lldp => put_front(packet.octets.as_slice(), into),
+        What::Lldp => put_front(octets, into),
         What::Nothing => None,
     }
 }

@@ -1,6 +1,6 @@
-ghost use Rattle.std.specs.Prelude.{◌≡◌, ◌+◌, ◌<◌, ◌^◌, ℕ, List, [], ◌∷◌, ◌++◌, length, IfOk, OnOk, OnErr, IfSome, MatchOption, take};
+ghost use Rattle.std.specs.Prelude.{◌≡◌, ◌+◌, ◌<◌, ◌^◌, ℕ, List, [], ◌∷◌, ◌++◌, ◌≤◌, length, IfOk, IfSome, MatchOption, take};
 ghost use Rattle.pre_mpacket.specs.Counters.{CountersOf};
-ghost use Rattle.pre_history.specs.Scenario.{Scenario};
+ghost use Rattle.pre_history.specs.Scenario.{Scenario, arc};
 ghost use Rattle.pre_history.specs.History.{Ended, History, PlainEvent};
 ghost use Rattle.pre_history.specs.Queries.{Arrivals};
 ghost use Rattle.pre_history.specs.Octets.{Air};
@@ -8,48 +8,51 @@ ghost use Rattle.pre_history.specs.Moments.{Phase};
 ghost use Rattle.pre_history.specs.Placed.{moment_of};
 ghost use Rattle.pre_history.specs.Legal.{LegalBefore, LegalUpTo};
 ghost use Rattle.pre_laws.specs.Routed.{IsRouted};
+ghost use Rattle.pre_incoming.specs.Flights.{HasRoom, IsWhole, TakesOctets, on_wire, with_octets};
 ghost use Rattle.pre_incoming.specs.Inputs.{HasFrames, scenario_of};
 ghost use Rattle.pre_incoming.specs.Wires.{IsOnWire, Receives};
-ghost use Rattle.pre_incoming.specs.Arriving.{Comes, HasFront, IsNextDue, IsNotDue};
+ghost use Rattle.pre_incoming.specs.Arriving.{Comes, ComesOff, HasFront, IsNextDue};
 ghost use Rattle.pre_incoming.specs.Landings.{HoldsFrame, Lands};
 
 use crate::changes::{damage, is_lost, smd_place};
 use crate::frames::{Inputs, put_expected};
 use crate::judging::judged;
 use crate::landings::{Landed, Landing};
-use crate::wires::OnWire;
-use pre_base::{ArcId, GREATEST_FRAME, Tick};
+use crate::wires::{Flight, Wire};
+use pre_base::{ArcId, GREATEST_FRAME, GREATEST_PACKET, Tick};
 use pre_receive::{Counters, Receiver, lost_arrivals};
 use std::alloc::{AllocError, Global};
-use std::collections::VecDeque;
 
 /// The receiving end of an arc: the mPackets on the wire, in order, and the receiver.
 #[derive(Drop)]
 pub struct Incoming {
-    wire: VecDeque<OnWire>,
+    wire: Wire,
     receiver: Receiver,
 }
 
 impl Incoming {
-    /// Nothing is on the wire, and nothing has arrived.
-    pub fn make(alloc: Global) -> Result<Incoming, AllocError>
-        ensures { IfOk result (λ x. (w : Scenario) (a : ℕ) → Receives w [] a x) }
+    /// Nothing is on the wire, and nothing has arrived. There is room for all that leaves within the delay, in ticks, at these
+    /// ticks for an octet.
+    pub fn make(alloc: Global, delay: u64, cost: u64) -> Result<Incoming, AllocError>
+        requires cost { (1 ≤ cost) × (cost ≤ 1000) }
+        requires delay { delay ≤ 10 ^ 9 }
+        ensures { IfOk result (λ x. (w : Scenario) (a : ℕ) → (arc w a).delay ≡ delay → (arc w a).cost ≡ cost → Receives w [] a x) }
     {
         Ok(Incoming {
-            wire: VecDeque::new(alloc),
+            wire: Wire::make(alloc, delay, cost)?,
             receiver: Receiver::make(alloc)?,
         })
     }
 
-    /// Puts an mPacket on the wire at its end, behind the others. Without memory for it the wire stays as it was.
-    pub fn push(&mut self, packet: OnWire) -> Result<(), AllocError>
-        ensures ok { OnOk result ((w : Scenario) (h : History) (a : ℕ) (e : Ended) → a < length w.net.arcs → e.arc ≡ a
-            → LegalUpTo w (moment_of w e.tick (Phase.ends a)) h → IsOnWire w h a packet e → Receives w h a self.old
-            → Receives w (h ++ PlainEvent.ended e ∷ []) a self.new) }
-        ensures err { OnErr result ((w : Scenario) (h : History) (a : ℕ) → Receives w h a self.old → Receives w h a self.new) }
+    /// Puts an mPacket on the wire at its end, with its octets, behind the others.
+    pub fn push(&mut self, flight: Flight, octets: &[u8])
+        requires size { flight.size ≡ length octets.now }
+        requires room { TakesOctets self.old.wire (length octets.now) }
+        ensures { (w : Scenario) (h : History) (a : ℕ) (e : Ended) → a < length w.net.arcs → e.arc ≡ a
+            → LegalUpTo w (moment_of w e.tick (Phase.ends a)) h → IsOnWire w h a (with_octets flight octets.now) e → Receives w h a self.old
+            → Receives w (h ++ PlainEvent.ended e ∷ []) a self.new }
     {
-        self.wire.push_back(packet)?;
-        Ok(())
+        self.wire.push(flight, octets);
     }
 
     /// Takes the mPacket that is due at the end of this arc, if there is one: it is lost or damaged as the script says, and what
@@ -68,10 +71,13 @@ impl Incoming {
         ensures frame { IfSome result (λ x. HoldsFrame (scenario_of inputs.now) x.size into.new x.given) }
     {
         lost_arrivals();
-        let Some(packet) = self.take_due(now) else {
+        let Some(due) = self.wire.due() else {
             return None;
         };
-        Some(received(&mut self.receiver, inputs, arc, packet, into))
+        if due != now {
+            return None;
+        }
+        Some(self.land_first(inputs, arc, into))
     }
 
     /// What was counted of the arrivals so far.
@@ -84,65 +90,72 @@ impl Incoming {
 
     /// The tick at which the next mPacket on the wire is due, None exactly where there is none.
     pub fn due(&self) -> Option<Tick>
-        ensures { MatchOption result (self.now.wire.items ≡ []) (λ due. IsNextDue due.0 self.now.wire.items) }
+        ensures { MatchOption result (on_wire self.now.wire ≡ []) (λ due. IsNextDue due.0 (on_wire self.now.wire)) }
     {
-        Some(self.wire.front()?.due)
+        self.wire.due()
     }
 
-    /// Takes the first mPacket off the wire, where it is due.
-    fn take_due(&mut self, now: Tick) -> Option<OnWire>
-        ensures due { MatchOption result (IsNotDue now.0 self.old.wire.items × (self.new.wire.items ≡ self.old.wire.items))
-            (λ p. (p.due.0 ≡ now.0) × (self.old.wire.items ≡ p ∷ self.new.wire.items)) }
-        ensures receiver { self.new.receiver ≡ self.old.receiver }
+    /// Takes the first mPacket off the wire, which has one, and answers what it comes to at the end of the arc.
+    fn land_first(
+        &mut self,
+        inputs: &Inputs,
+        arc: ArcId,
+        into: &mut [u8; GREATEST_FRAME as usize],
+    ) -> Landing
+        requires frames { HasFrames (scenario_of inputs.now) }
+        requires some { 0 < length self.old.wire.flights.items }
+        ensures comes { IsWhole self.old.wire → ComesOff (scenario_of inputs.now) arc.0 self.old self.new result (take result.size into.new) }
+        ensures room { (delay cost : ℕ) → HasRoom delay cost self.old.wire → HasRoom delay cost self.new.wire }
+        ensures frame { HoldsFrame (scenario_of inputs.now) result.size into.new result.given }
     {
-        if self.wire.front()?.due != now {
-            return None;
-        }
-        self.wire.pop_front()
+        let mut octets = [0u8; GREATEST_PACKET as usize];
+        let flight = self.wire.take_first(&mut octets);
+        let size = usize::from(flight.size).min(octets.len());
+        received(
+            &mut self.receiver,
+            inputs,
+            arc,
+            flight,
+            &mut octets[..size],
+            into,
+        )
     }
 }
 
-/// What an mPacket comes to at the end of an arc.
+/// What an mPacket with these octets comes to at the end of an arc; it is damaged in place.
 fn received(
     receiver: &mut Receiver,
     inputs: &Inputs,
     arc: ArcId,
-    packet: OnWire,
+    flight: Flight,
+    octets: &mut [u8],
     into: &mut [u8; GREATEST_FRAME as usize],
 ) -> Landing
     requires { HasFrames (scenario_of inputs.now) }
-    ensures ord { result.ord ≡ packet.ord }
-    ensures comes { Comes (scenario_of inputs.now) arc.0 packet receiver.old receiver.new result.given }
-    ensures front { HasFront (scenario_of inputs.now) arc.0 packet (take result.size into.new) result.given }
+    ensures ord { result.ord ≡ flight.ord }
+    ensures comes { Comes (scenario_of inputs.now) arc.0 (with_octets flight octets.old) receiver.old receiver.new result.given }
+    ensures front { HasFront (scenario_of inputs.now) arc.0 (with_octets flight octets.old) (take result.size into.new) result.given }
     ensures frame { HoldsFrame (scenario_of inputs.now) result.size into.new result.given }
 {
-    if is_lost(inputs.script, arc, packet.ord) {
+    if is_lost(inputs.script, arc, flight.ord) {
         return Landing {
-            ord: packet.ord,
+            ord: flight.ord,
             given: Landed::Lost,
             size: 0,
         };
     }
-    let expected = put_expected(inputs, &packet, into);
-    let OnWire {
-        ord,
-        kind,
-        what,
-        is_last: _,
-        due: _,
-        mut octets,
-    } = packet;
+    let expected = put_expected(inputs, flight, octets, into);
     damage(
         inputs.script,
         arc,
-        ord,
-        smd_place(kind),
-        octets.as_mut_slice(),
+        flight.ord,
+        smd_place(flight.kind),
+        octets,
     );
-    let taken = receiver.take(octets.as_slice());
+    let taken = receiver.take(octets);
     Landing {
-        ord,
-        given: judged(kind, what, taken, expected, into),
+        ord: flight.ord,
+        given: judged(flight.kind, flight.what, taken, expected, into),
         size: expected.unwrap_or(0),
     }
 }

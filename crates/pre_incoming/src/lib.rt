@@ -13,7 +13,7 @@ pub use frames::{Inputs, put_frame};
 pub use incomings::Incoming;
 pub use landings::{Landed, Landing};
 pub use laws::{landings_are_arrivals, no_alias_so_far, other_events};
-pub use wires::{OnWire, sent_octets};
+pub use wires::{Flight, Wire};
 
 #[cfg(test)]
 mod tests;

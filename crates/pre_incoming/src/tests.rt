@@ -3,7 +3,7 @@ ghost use Rattle.pre_incoming.specs.Inputs.{HasFrames, scenario_of};
 use super::*;
 use pre_base::{ArcId, FrameNo, GREATEST_FRAME, Items, Tick};
 use pre_history::What;
-use pre_mpacket::{Kind, MPacket};
+use pre_mpacket::Kind;
 use pre_script::{Damage, Loss, read_script};
 use std::alloc::Global;
 use std::test::Fail;
@@ -16,21 +16,22 @@ const FRAME: [u8; 64] = [
     0x1E, 0x1F, 0x20, 0x21, 0x22, 0x23, 0x24, 0x25, 0x26, 0x27, 0x28, 0x29, 0xD9, 0x06, 0x4E, 0x6C,
 ];
 
-/// The frame on the wire of the first arc.
-fn on_wire(alloc: Global) -> Result<OnWire, Fail> {
-    let packet = MPacket {
-        kind: Kind::Express,
-        mdata: &FRAME[..60],
-        check: &FRAME[60..],
-    };
-    Ok(OnWire {
-        ord: 0,
-        kind: Kind::Express,
-        what: What::Frame(FrameNo(0)),
-        is_last: true,
-        due: Tick(72),
-        octets: sent_octets(alloc, &packet)?,
-    })
+/// The frame on the wire of the first arc, with the eight octets before it.
+const FLIGHT: Flight = Flight {
+    ord: 0,
+    kind: Kind::Express,
+    what: What::Frame(FrameNo(0)),
+    is_last: true,
+    due: Tick(72),
+    size: 72,
+};
+
+/// Its octets.
+fn octets_on_wire() -> [u8; 72] {
+    let mut octets = [0x55; 72];
+    octets[7] = 0xD5;
+    octets[8..].copy_from_slice(&FRAME);
+    octets
 }
 
 /// Whether the frame stands at the front.
@@ -42,8 +43,8 @@ fn is_frame(octets: &[u8; GREATEST_FRAME as usize]) -> bool {
 fn lands(alloc: Global, inputs: &Inputs) -> Result<Landing, Fail>
     requires { HasFrames (scenario_of inputs.now) }
 {
-    let mut incoming = Incoming::make(alloc)?;
-    incoming.push(on_wire(alloc)?)?;
+    let mut incoming = Incoming::make(alloc, 0, 1)?;
+    incoming.push(FLIGHT, &octets_on_wire());
     let mut into = [0; GREATEST_FRAME as usize];
     let early = incoming.land(inputs, Tick(71), ArcId(0), &mut into);
     if early.is_some() {

@@ -1,5 +1,5 @@
 -- How far apart mPackets arrive by one arc, and so how many of them within some ticks.
-use Rattle.std.proofs.Common.{ℕ, zero, suc, ◌≡◌, ◌<◌, ◌≤◌, ◌+◌, ◌-◌, ◌*◌, ◌/◌, inl, inr, List, [], ◌∷◌, length, drop, sym, ◌∙◌, ap, refl, arith, Some, All, subst}
+use Rattle.std.proofs.Common.{ℕ, zero, suc, ◌≡◌, ◌<◌, ◌≤◌, ◌+◌, ◌-◌, ◌*◌, ◌/◌, inl, inr, List, [], ◌∷◌, length, drop, ◌∙◌, ap, refl, arith, Some, All, subst}
 use Rattle.std.specs.Prelude.{slice_get}
 use Rattle.std.proofs.Math.Nat.{mul-le-mul_left}
 use Rattle.std.proofs.lemmas.Bool.{cases_lt}
@@ -26,7 +26,7 @@ module _ (cost delay : ℕ) (begins : List Begin) (ends : List Ended) (arrivals 
       omega (arith, is.spans (suc i) b.0 e b.1 next, is.apart i d b.0 at b.1, spent)
 
   -- and so with others between them
-  far : (k i j : ℕ) (d e : Ended) → j ≡ k + i → slice_get ends i ≡ Some d → slice_get ends j ≡ Some e → d.tick + 84 * cost * k ≤ e.tick
+  pub far : (k i j : ℕ) (d e : Ended) → j ≡ k + i → slice_get ends i ≡ Some d → slice_get ends j ≡ Some e → d.tick + 84 * cost * k ≤ e.tick
   far zero i j d e place at to =
       let here : j ≡ i = omega (arith, place) in
       let same = one_at ends i d e at (subst (λ n. slice_get ends n ≡ Some e) here to) in

@@ -1,10 +1,8 @@
 -- Bridges inside a route, and stations at its ends.
 use Rattle.std.proofs.Common.{ℕ, ◌≡◌, ◌<◌, ◌+◌, ◌*◌, ◌%◌, ◌/◌, inl, inr, cond, length, sym, ◌∙◌, ap, arith, subst, Some, All, get_or, ◌-◌}
 use Rattle.std.specs.Prelude.{slice_get}
-use Rattle.std.specs.Option.{option_map_or}
 use Rattle.std.proofs.lemmas.Bool.{eq-eqb, ne_eqb, cases_eq}
 use Rattle.std.proofs.lemmas.Option.{slice_get_within}
-use Rattle.std.proofs.lemmas.List.Elements.{recursion_from_All}
 use Rattle.pre_base.specs.declared.numbers.ArcId.{ArcId}
 use Rattle.pre_base.specs.declared.numbers.NodeId.{NodeId}
 use Rattle.pre_topo.specs.declared.network.Network.{Network}
@@ -12,14 +10,13 @@ use Rattle.pre_topo.specs.declared.nodes.Node.{Node}
 use Rattle.pre_topo.specs.declared.nodes.NodeKind.{NodeKind}
 use Rattle.pre_topo.specs.declared.nodes.NodeKind.TheVariants.{Station, Bridge}
 use Rattle.pre_topo.specs.declared.arcs.Arc.{Arc}
-use Rattle.pre_topo.specs.Arcs.{latency_at, reverse_of}
-use Rattle.pre_topo.specs.Nodes.{IsNode}
+use Rattle.pre_topo.specs.Arcs.{reverse_of}
 use Rattle.pre_streams.specs.declared.rows.Row.{Row}
 use Rattle.pre_streams.specs.declared.rows.Streams.{Streams}
 use Rattle.pre_streams.specs.Fits.{Fits}
 use Rattle.pre_streams.specs.Rows.{IsOfKind, IsRoute}
-use Rattle.pre_history.proofs.Lists.{there, one_at, every_at}
-use Rattle.pre_bridge.specs.Table.{onward, latency_of}
+use Rattle.pre_history.proofs.Lists.{there, one_at}
+use Rattle.pre_bridge.specs.Table.{onward}
 use Rattle.pre_memory.specs.Stations.{LeadsTo}
 
 abbrev GoesAlong : Network → Streams → Row → Type 0

@@ -8,14 +8,19 @@ ghost use Rattle.pre_topo.specs.declared.arcs.Arc.{Arc};
 ghost use Rattle.pre_topo.specs.Arcs.{slots_of_arc, reverse_of};
 ghost use Rattle.pre_streams.specs.declared.rows.Streams.{Streams};
 ghost use Rattle.pre_streams.specs.Fits.{Fits};
-ghost use Rattle.pre_history.specs.Scenario.{Scenario};
+ghost use Rattle.pre_history.specs.Scenario.{Scenario, arc};
 ghost use Rattle.pre_history.specs.History.{Begin, Ended, Arrive, History};
 ghost use Rattle.pre_history.specs.Ordered.{AreOrdered};
-ghost use Rattle.pre_history.specs.Queries.{Ends};
+ghost use Rattle.pre_history.specs.Queries.{Arrivals, Begins, Ends};
+ghost use Rattle.pre_history.specs.Octets.{SentOctets};
+ghost use Rattle.pre_history.specs.Moments.{moments};
+ghost use Rattle.pre_history.specs.Placed.{number};
 ghost use Rattle.pre_history.specs.Legal.{LegalUpTo};
 ghost use Rattle.pre_laws.specs.Routed.{IsRouted};
 ghost use Rattle.pre_bridge.specs.Inside.{Entry, of_arc};
 ghost use Rattle.pre_bridge.specs.Table.{onward};
+ghost use Rattle.pre_base.specs.declared.limits.TheConstants.{GREATEST_PACKET};
+ghost use Rattle.pre_memory.specs.Wires.{octets_of};
 ghost use Rattle.pre_memory.specs.Stations.{LeadsTo};
 ghost use Rattle.pre_memory.specs.Slots.{Store, one_if, slots_out, Held, frames_held, room_of, FitsArcs};
 
@@ -25,6 +30,17 @@ use pre_bridge::route_law;
 /// of a frame, a verify and a respond.
 pub fn mpackets_have_sizes()
     ensures { (w : Scenario) → IsRouted w → (n : ℕ) (h : History) → LegalUpTo w n h → (a : ℕ) → a < length w.net.arcs → All (λ e. 64 ≤ e.size) (Ends h a) }
+{}
+
+/// What has ended on an arc and hasn't arrived has no more octets, preambles included, than leave within the arc's delay and in a
+/// longest packet; and these are no more mPackets than the shortest that leave within it, and one.
+pub fn wires_have_room()
+    ensures octets { (w : Scenario) → IsRouted w → (h : History) (a t k : ℕ) → a < length w.net.arcs → k ≤ moments (length w.net.arcs) → LegalUpTo w (number (length w.net.arcs) t k) h
+        → sum_by octets_of (drop (length (Arrivals h a)) (Ends h a)) ≤ (arc w a).delay / (arc w a).cost + GREATEST_PACKET }
+    ensures packets { (w : Scenario) → IsRouted w → (h : History) (a t k : ℕ) → a < length w.net.arcs → k ≤ moments (length w.net.arcs) → LegalUpTo w (number (length w.net.arcs) t k) h
+        → length (drop (length (Arrivals h a)) (Ends h a)) ≤ (arc w a).delay / (84 * (arc w a).cost) + 1 }
+    ensures sent { (w : Scenario) → IsRouted w → (n : ℕ) (h : History) → LegalUpTo w n h → (a : ℕ) → a < length w.net.arcs → (i : ℕ) (b : Begin) (e : Ended)
+        → slice_get (Begins h a) i ≡ Some b → slice_get (Ends h a) i ≡ Some e → length (SentOctets w h b e) ≡ octets_of e }
 {}
 
 /// What arrives by an arc is 84 octets apart at least: the preamble, 64 octets, and the gap. So where the mPacket that ended next

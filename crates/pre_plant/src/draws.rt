@@ -6,9 +6,10 @@ use std::alloc::{AllocError, Global};
 /// How many draws a plant takes.
 pub(crate) const COUNT: usize = 360;
 
-/// The multiplier and the increment of the generator, whose states are numbers below 2^64.
+/// The multiplier of the generator, whose states are numbers below 2^64.
 const MULTIPLIER: u64 = 6364136223846793005;
 
+/// Its increment.
 const INCREMENT: u64 = 1442695040888963407;
 
 /// The lower bits of a state, which a draw leaves out.

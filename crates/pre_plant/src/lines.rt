@@ -15,14 +15,16 @@ const UNTIL: u64 = 10_000_000;
 /// The arcs of the network.
 const ARCS: u64 = 102;
 
-/// How many losses there are, and the place of their first draw.
+/// How many losses there are.
 const LOSSES: usize = 20;
 
+/// The place of their first draw.
 const LOSS_DRAWS: usize = 240;
 
-/// How many damages there are, and the place of their first draw.
+/// How many damages there are.
 const DAMAGES: usize = 20;
 
+/// The place of their first draw.
 const DAMAGE_DRAWS: usize = 280;
 
 /// How many ordinals there are to be drawn from.
@@ -31,9 +33,10 @@ const ORDINALS: u64 = 100;
 /// The least ordinal of a damage.
 const LEAST_ORDINAL: u64 = 8;
 
-/// The least offset of a damage, and how many there are to be drawn from.
+/// The least offset of a damage.
 const LEAST_OFFSET: u64 = 8;
 
+/// How many offsets there are to be drawn from.
 const OFFSETS: u64 = 32;
 
 /// The octets that a damage may have: all but 0.

@@ -10,6 +10,7 @@ use std::alloc::{AllocError, Global};
 /// The bridges stand first among the nodes, and the stations behind them.
 pub(crate) const BRIDGES: u16 = 12;
 
+/// How many stations there are.
 pub(crate) const STATIONS: u16 = 40;
 
 /// The links of the chain.

@@ -11,8 +11,10 @@ use pre_curve::Curve;
 use pre_streams::{Row, Streams};
 use std::alloc::{AllocError, Global};
 
+/// The streams stand first among the rows, and the flows behind them.
 pub(crate) const STREAMS: u16 = 60;
 
+/// How many flows there are.
 pub(crate) const FLOWS: u16 = 30;
 
 /// The frames of every flow, in octets.
@@ -24,9 +26,10 @@ const STREAM_SIZES: u64 = 64;
 /// The octets that a stream may send more for each 1,000,000 ticks.
 const RATE: u64 = 200;
 
-/// The VIDs of the first stream and of the first flow.
+/// The VID of the first stream.
 const STREAM_VIDS: u16 = 100;
 
+/// The VID of the first flow.
 const FLOW_VIDS: u16 = 200;
 
 /// The stations that a row may go to: all but its own.

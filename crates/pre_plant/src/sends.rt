@@ -13,14 +13,16 @@ const STOP: u64 = 9_000_000;
 /// The ticks in which a stream's rate gives one octet back.
 const OCTET_PERIOD: u64 = 5000;
 
-/// The first tick of a stream is below this bound, and its draw is behind those of all rows.
+/// The first tick of a stream is below this bound.
 const STREAM_FIRSTS: u64 = 100_000;
 
+/// The place of the first stream's draw for it, behind those of all rows.
 const STREAM_DRAWS: usize = 150;
 
-/// The first tick of a flow is below its period, and its draw is behind those of the streams' first ticks.
+/// The period of a flow, below which its first tick is.
 const FLOW_PERIOD: u64 = 24_000;
 
+/// The place of the first flow's draw for it.
 const FLOW_DRAWS: usize = 210;
 
 /// What a row sends: frames of one size, one a period.

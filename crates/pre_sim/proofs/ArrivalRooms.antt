@@ -49,7 +49,7 @@ use Rattle.pre_sim.proofs.StageTests.{is_set_up}
 next_due : (w : Scenario) (h es : History) (t a : ℕ) → a < length w.net.arcs → LegalUpTo w (number (length w.net.arcs) t (1 + length w.net.arcs + a)) h → HappensIn w h t (Phase.arrivals a) es
     → es ≢ [] → (e : Ended) → slice_get (Ends h a) (length (Arrivals h a)) ≡ Some e → e.tick + (arc w a).delay ≡ t
 unfolding HappensIn
-next_due w h es t a a_lt legal happens some e at = elim its [ | inl now ↦ now.0 | inr none ↦ absurd (some none.1) ]
+next_due w h es t a a_lt legal happens some e at = elim its [ inl now ↦ now.0 | inr none ↦ absurd (some none.1) ]
   where
     none_else : (i : ℕ) (d : Ended) (fs : List PlainEvent) → i ≢ length (Arrivals h a) → slice_get (Ends h a) i ≡ Some d → Arriving w h t a d fs → fs ≡ []
     none_else i d fs other there_is (inl now) =
@@ -92,7 +92,8 @@ costs w a lt =
     rule.cost.0
 
 -- where the next one is due, fewer are inside that arrived by the arc than may be
-few_inside : (w : Scenario) (t a n : ℕ) → a < length w.net.arcs → IsRouted w → (h : History) (items : List Entry) → LegalUpTo w n h → AreInside w a (Begins h a) (Arrivals h a) t items → IsDueAt w h t a
+few_inside : (w : Scenario) (t a n : ℕ) → a < length w.net.arcs → IsRouted w → (h : History) (items : List Entry) → LegalUpTo w n h
+    → AreInside w a (Begins h a) (Arrivals h a) t items → IsDueAt w h t a
     → length items ≤ latency w a / (84 * (arc w a).cost)
 few_inside w t a n lt routed h items legal is due =
     let late : All (λ (x : Arrive). due.0.tick + (arc w a).delay ≤ x.tick + latency w a) (drop is.gone (Arrivals h a)) =
@@ -106,7 +107,8 @@ few_inside w t a n lt routed h items legal is due =
 -- ---- each arc of a tick
 
 module _ (w : Scenario) (routed : IsRouted w) (t n m : ℕ) (relay relay' : Relay) (lanes lanes' : List Lane) (store store' : Store) (es : History) (from : ArrivalsReached w t relay lanes store)
-    (part : ArrivalsPart w t (1 + length w.net.arcs) n m store store' relay relay' lanes lanes' es) (many : length lanes' ≡ length w.net.arcs) (lane : Lane) (here : slice_get lanes' n ≡ Some lane) where
+    (part : ArrivalsPart w t (1 + length w.net.arcs) n m store store' relay relay' lanes lanes' es) (many : length lanes' ≡ length w.net.arcs)
+    (lane : Lane) (here : slice_get lanes' n ≡ Some lane) where
   in_it : (calls' : List Call) × Stands relay' w.net w.streams calls' × (inside w.net w.streams calls' ≡ inside w.net w.streams from.calls ++ part.0)
   in_it = part.2 from.calls from.relays
 

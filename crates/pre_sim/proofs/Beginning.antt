@@ -40,7 +40,7 @@ idle_stands : (w : Scenario) (a : ℕ) (lane : Lane) → IsIdle w.net.timing (ar
 idle_stands w a lane is = record {
   rings = idle_rings w a lane is;
   outgoing = is.outgoing w a refl refl;
-  incoming = is.incoming w a;
+  incoming = is.incoming w a refl refl;
   partner = is.partner w a refl;
   setting = is.set;
   link = λ negotiates. is.link w a refl;

@@ -128,7 +128,8 @@ pub counted_sent : (f : FrameRef) (octets : List ℕ) (store store' : Store) (la
 counted_sent f octets store store' lanes entries stored is = omega (arith, is, one_out store store' f.slot octets stored)
 
 -- a frame leaves a bridge
-pub counted_taken : (store : Store) (lanes : List Lane) (before behind : List Entry) (e : Entry) → IsCounted store lanes (before ++ e ∷ behind) [] → IsCounted store lanes (before ++ behind) (e.frame ∷ [])
+pub counted_taken : (store : Store) (lanes : List Lane) (before behind : List Entry) (e : Entry) → IsCounted store lanes (before ++ e ∷ behind) []
+    → IsCounted store lanes (before ++ behind) (e.frame ∷ [])
 counted_taken store lanes before behind e is = omega (arith, is, length-append before (e ∷ behind), length-append before behind)
 
 -- at first no slot is out

@@ -22,7 +22,7 @@ use Rattle.pre_history.proofs.Undamaged.{length-FrameOf}
 use Rattle.pre_bridge.specs.Inside.{Entry}
 use Rattle.pre_outgoing.specs.declared.outgoing.Finished.{Finished}
 use Rattle.pre_outgoing.specs.Sends.{Sends, Leaves, HasEnded, AreStored, AreHeld}
-use Rattle.pre_incoming.specs.declared.wires.OnWire.{OnWire}
+use Rattle.pre_incoming.specs.Flights.{OnWire}
 use Rattle.pre_incoming.specs.Wires.{IsOnWire, Receives}
 use Rattle.pre_incoming.proofs.Goings.{elsewhere}
 use Rattle.pre_links.specs.Listening.{Hears}
@@ -60,17 +60,14 @@ module _ (w : Scenario) (t a : ℕ) (a_lt : a < length w.net.arcs) (old : Lane) 
   abbrev A : ℕ
   A = length w.net.arcs
 
-  its_stage : stage_at A t (1 + a) a ≡ set_up t
+  pub its_stage : stage_at A t (1 + a) a ≡ set_up t
   its_stage = is_set_up A t (1 + a) a (omega arith) (omega arith)
 
   next_stage : stage_at A t (1 + a + 1) a ≡ set_up t
   next_stage = is_set_up A t (1 + a + 1) a (omega arith) (omega (arith, a_lt))
 
-  pub no_front : LaneFront w t (Phase.ends a) a None old []
-  no_front h items b = (number A t (1 + a), [], subst (λ g. LegalAt w t (1 + a) g) (sym (append-nil (h ++ []) ∙ append-nil h)) b.legal)
-
   -- the history goes on at the next place
-  goes : (h es : History) → LegalAt w t (1 + a) h → HappensIn w h t (Phase.ends a) es → LegalAt w t (1 + a + 1) (h ++ es)
+  pub goes : (h es : History) → LegalAt w t (1 + a) h → HappensIn w h t (Phase.ends a) es → LegalAt w t (1 + a + 1) (h ++ es)
   goes h es legal happens =
       subst (LegalBefore w (h ++ es)) (next A t a) (elsewhere w h es t (1 + a) (Phase.ends a) (omega (arith, a_lt)) (ends_place A a a_lt) legal happens (λ b e. absurd (cc e)))
     where
@@ -98,8 +95,8 @@ module _ (w : Scenario) (t a : ℕ) (a_lt : a < length w.net.arcs) (old : Lane) 
 
 -- ---- an arc of which an mPacket ends
 
-module _ (w : Scenario) (t a : ℕ) (a_lt : a < length w.net.arcs) (store : Store) (old new : Lane) (keeps : LaneKeeps w store a old) (l : Leaving) (f : Finished) (p : OnWire)
-    (leaves : IsLeaving store old.outgoing l) (due : plans_end old.outgoing.sender ≡ Some t)
+module _ (w : Scenario) (t a : ℕ) (a_lt : a < length w.net.arcs) (store : Store) (old new : Lane) (keeps : LaneKeeps w store a old) (l : Leaving) (f : Finished) (p : OnWire) (sent : List ℕ)
+    (leaves : IsLeaving store old.outgoing l sent) (due : plans_end old.outgoing.sender ≡ Some t)
     (ends : (h : History) (e : Ended) → LegalUpTo w (number (length w.net.arcs) t (1 + a)) h → Sends w h a t true old.outgoing → AreStored w store (frames_of old.outgoing.sender)
     → HappensIn w h t (Phase.ends a) (PlainEvent.ended e ∷ []) → HasEnded w h t a e f new.outgoing)
     (pushed : (h : History) (e : Ended) → e.arc ≡ a → LegalUpTo w (moment_of w e.tick (Phase.ends a)) h → IsOnWire w h a p e → Receives w h a old.incoming
@@ -107,7 +104,7 @@ module _ (w : Scenario) (t a : ℕ) (a_lt : a < length w.net.arcs) (store : Stor
     (linked : (h : History) (e : Ended) → LegalUpTo w (moment_of w t (Phase.ends a)) h → LinkStands w h a t old.link → e.arc ≡ a → e.tick ≡ t → e.ord ≡ length (Ends h a)
     → length (Ends h a) < length (Begins h a)
     → LinkStands w (h ++ PlainEvent.ended e ∷ []) a t new.link)
-    (ord : p.ord ≡ f.ord) (carries : p.what ≡ f.what) (is_last : p.is_last ≡ f.is_last) (kind : p.kind ≡ l.kind) (octets : p.octets.items ≡ l.octets.items) (its_due : p.due.0 ≡ t + (arc w a).delay)
+    (ord : p.ord ≡ f.ord) (carries : p.what ≡ f.what) (is_last : p.is_last ≡ f.is_last) (kind : p.kind ≡ l.kind) (octets : p.octets ≡ sent) (its_due : p.due.0 ≡ t + (arc w a).delay)
     (rings : new.rings ≡ old.rings) (partner : new.partner ≡ old.partner) (setting : new.setting ≡ old.setting) where
   abbrev told : Ended
   told = record { tick = t; arc = a; ord = f.ord; size = f.size; check = l.check }

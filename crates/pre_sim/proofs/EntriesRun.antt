@@ -78,10 +78,6 @@ module _ (w : Scenario) (t : ℕ) (old : List Lane) where
       let f = front h (new_front w h cs ds news) stand early in
       (f.0, f.1 ++ ds, ap (λ xs. xs ++ ds) f.2 ∙ append_assoc f.0 f.1 ds, f.3)
 
-  -- none of them is a front
-  pub none_front : (cs : List Coming) → ComesFront w t cs old []
-  none_front cs h news stand early = ([], cs, refl, refl)
-
 -- the same frames, said in another way
 pub comes_same : (w : Scenario) (t : ℕ) (old new : List Lane) (cs ds : List Coming) (lost : ℕ) (es : History) → cs ≡ ds → ComesPart w t cs old new lost es → ComesPart w t ds old new lost es
 comes_same w t old new cs ds lost es is part = subst (λ xs. ComesPart w t xs old new lost es) is part

@@ -1,5 +1,6 @@
 -- Each frame keeps a slot of its own, and no other slot is out, as frames come and go.
-use Rattle.std.proofs.Common.{length-append, ℕ, zero, suc, ◌≡◌, ◌≢◌, ◌==◌, Bool, true, false, ◌+◌, ◌<◌, ◌≤◌, List, [], ◌∷◌, ◌++◌, length, map, replicate, refl, sym, ◌∙◌, ap, arith, subst, Option, Some, None}
+use Rattle.std.proofs.Common.{length-append}
+use Rattle.std.proofs.Common.{ℕ, zero, suc, ◌≡◌, ◌≢◌, ◌==◌, Bool, true, false, ◌+◌, ◌<◌, ◌≤◌, List, [], ◌∷◌, ◌++◌, length, map, replicate, refl, sym, ◌∙◌, ap, arith, subst, Option, Some, None}
 use Rattle.std.specs.Prelude.{slice_get, slice_index_or, set}
 use Rattle.std.proofs.Math.ListN.{length-set}
 use Rattle.std.proofs.lemmas.List.Folds.{sum_by-replicate}
@@ -314,7 +315,8 @@ module _ (w : Scenario) where
       let p = leaves.prio in
       let waited : Every (Waits w store a p) (f ∷ leaves.behind) = subst (Every (Waits w store a p)) leaves.front (was.waiting p) in
       let going : IsUnderWay w store a f = record { frame = waited.0.frame; over = waited.0.over } in
-      let lane = lane_ring store a p leaves.behind old new leaves.left (let more = was.within p in omega (arith, more, ap (length {A = FrameRef}) leaves.front)) waited.1 (subst (Every (IsUnderWay w store a)) (sym sends) (going, was.sending)) was in
+      let lane = lane_ring store a p leaves.behind old new leaves.left (let more = was.within p in omega (arith, more, ap (length {A = FrameRef}) leaves.front)) waited.1
+      (subst (Every (IsUnderWay w store a)) (sym sends) (going, was.sending)) was in
       let below : p < length old.rings.frames = omega (arith, leaves.most, few, was.eight.0) in
       no_more store (set lanes a new) entries
       (all_with store lanes a old new entries [] [] at lane tt
@@ -331,7 +333,8 @@ module _ (w : Scenario) where
 
   -- a frame arrived and goes on: it is inside the bridge, in a slot that was in
   apart_arrived : (a : ℕ) (store store' : Store) (old new : Lane) (f : FrameNo) (slot : ℕ) (e : Entry) → new.rings ≡ old.rings → sent_by new.outgoing.sender ≡ sent_by old.outgoing.sender
-      → f.0 < length w.script.sends → LEAST_FRAME ≤ (send w f.0).send.size → IsStored store (FrameOf w f.0) slot store' → e.frame ≡ in_slot w f slot → LeadsTo w.net e.arc Bridge → GoesOver w f e.next.0
+      → f.0 < length w.script.sends → LEAST_FRAME ≤ (send w f.0).send.size → IsStored store (FrameOf w f.0) slot store' → e.frame ≡ in_slot w f slot → LeadsTo w.net e.arc Bridge
+      → GoesOver w f e.next.0
       → ApartOn a store store' old new (e ∷ [])
   apart_arrived a store store' old new f slot e rings sends known long stored its from onto =
       λ lanes entries at is.
@@ -359,7 +362,8 @@ module _ (w : Scenario) where
       let sends : sent_by new.outgoing.sender ≡ sent_by old.outgoing.sender = ap (λ (o : Outgoing). sent_by o.sender) sending in
       let waits : Waits w store a p f = record { frame = is.each_moving.0; over = over; ring = refl } in
       let all : Every (Waits w store a p) (frames_at old.rings p ++ f ∷ []) = every-append (Waits w store a p) (frames_at old.rings p) (f ∷ []) (was.waiting p) (waits, tt) in
-      let lane = lane_ring store a p (frames_at old.rings p ++ f ∷ []) old new rings (omega (arith, room, length-append (frames_at old.rings p) (f ∷ []))) all (subst (Every (IsUnderWay w store a)) (sym sends) was.sending) was in
+      let lane = lane_ring store a p (frames_at old.rings p ++ f ∷ []) old new rings (omega (arith, room, length-append (frames_at old.rings p) (f ∷ []))) all
+      (subst (Every (IsUnderWay w store a)) (sym sends) was.sending) was in
       let within : p < length old.rings.frames = omega (arith, below, was.eight.0) in
       all_with store lanes a old new entries (f ∷ []) [] here lane tt
       (λ n. omega (

@@ -17,7 +17,7 @@ use Rattle.pre_sim.specs.declared.lanes.Lane.{Lane}
 use Rattle.pre_sim.specs.declared.ticks.Progress.{Progress}
 use Rattle.pre_sim.specs.Keeps.{Store, Keeps, IsKept, TakesIn}
 use Rattle.pre_sim.specs.Stands.{LanesStand, AreSentBefore, AreSetBefore, Reaches, sends_turn}
-use Rattle.pre_sim.specs.Parts.{LegalAt, IsFront, LanesPart, LanesFront, SetsPart, SetsFront, ArrivalsAlias, Carries, CarriesFront, CarriesAlias, IsReached}
+use Rattle.pre_sim.specs.Parts.{LegalAt, IsFront, LanesPart, LanesFront, LanesReached, SetsPart, SetsFront, ArrivalsAlias, Carries, CarriesFront, CarriesAlias, IsReached}
 use Rattle.pre_sim.specs.Room.{ArrivalsReached}
 use Rattle.pre_sim.proofs.SameCalls.{lanes_by}
 use Rattle.pre_sim.proofs.Lists.{count_by-append}
@@ -94,6 +94,9 @@ module _ (w : Scenario) (t : ℕ) (old : Progress) where
         subst (λ g. FirstAliasAt w g t a i) (append_assoc h es fs)
         (alias (h ++ es) (inside w.net w.streams r.calls ++ more) (subst (λ m. LegalAt w t m (h ++ es)) place one.0)
         (subst (λ m. LanesStand w (h ++ es) t m from (inside w.net w.streams r.calls ++ more)) place one.1))
+
+    pub lead_lanes : IsReached w t 0 old → LanesReached w t k from
+    lead_lanes reached = let one = led reached.0 reached.1 in (reached.0 ++ es, inside w.net w.streams reached.1.calls ++ more, one.0, one.1)
 
     pub lead_reached : k ≡ 1 + A → (relay : Relay) → relay ≡ old.relay → more ≡ [] → IsReached w t 0 old → IsKept w t old → ArrivalsReached w t relay from store
     lead_reached is_k relay same none reached kept =

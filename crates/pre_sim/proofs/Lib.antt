@@ -10,6 +10,7 @@ pub mod Others
 pub mod Rows
 pub mod Readiness
 pub mod EndParts
+pub mod WireRooms
 pub mod ExpiryParts
 pub mod WaitingNow
 pub mod LeftRings

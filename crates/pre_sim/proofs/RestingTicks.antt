@@ -178,7 +178,7 @@ module _ (w : Scenario) (fit : AllFit w.net w.streams w.script) (t : ℕ) (h : H
     none_ends legal = ends_agree w h t a lane.outgoing a_lt legal stand.outgoing rest.no_end
 
     none_arrives : LegalUpTo w (moment_of w t (Phase.arrivals a)) h → HappensIn w h t (Phase.arrivals a) []
-    none_arrives legal = (none_lands w h t a a_lt (legal, r.legal.1) lane.incoming lane.incoming stand.incoming rest.no_arrival refl refl).happens
+    none_arrives legal = (none_lands w h t a a_lt (legal, r.legal.1) lane.incoming stand.incoming rest.no_arrival).happens
 
     none_expires : HappensIn w h t (Phase.expiries a) []
     none_expires = elim (talks_or_not (arc w a).mode) [ inl talks ↦ (calm talks).expires | inr off ↦ calm_arc w h a t off ]

@@ -17,7 +17,7 @@ use Rattle.pre_base.specs.declared.numbers.ArcId.{ArcId}
 use Rattle.pre_sim.specs.declared.runs.Step.TheVariants as step
 use Rattle.pre_sim.specs.declared.ticks.Progress.{Progress}
 use Rattle.pre_sim.specs.declared.halts.Halt.{Halt}
-use Rattle.pre_sim.specs.declared.halts.Halt.TheVariants.{Stopped, Memory, Alias}
+use Rattle.pre_sim.specs.declared.halts.Halt.TheVariants.{Stopped, Alias}
 use Rattle.pre_sim.specs.Telling.{TellsAll}
 use Rattle.pre_sim.specs.Stands.{Reaches}
 use Rattle.pre_sim.specs.Parts.{TellsPart, TickPart, AdvancePart, AdvanceFront, CarriesAlias, IsFrontOfLegal}
@@ -47,10 +47,6 @@ module _ (s v u : SimView) (same : s ≡ v) (a b : Takes) (torn : Fails) where
       let part : AdvancePart v.run v.next v.progress new true es = subst (λ x. AdvancePart v.run v.next v.progress new x es) is any in
       subst (λ (x : SimView). (es : History) × TellsAll x.run.net a b es × ((h : History) → HasTold x h → Legal x.run (h ++ es))) (sym same) (es, told, λ h has. part h has.reaches)
 
-  pub tells_part : (es : History) × TellsAll v.run.net a b es × AdvanceFront v.run v.next v.progress es → StepTells s step.Memory u a b torn
-  tells_part (es, told, front) =
-      subst (λ (x : SimView). (es : History) × TellsAll x.run.net a b es × ((h : History) → HasTold x h → IsFrontOfLegal x.run (h ++ es))) (sym same) (es, told, λ h has. front h has.reaches)
-
   pub tells_alias : (arc : ArcId) (ordinal : ℕ) → (es : History) × TellsAll v.run.net a b es × CarriesAlias v.run v.next 0 v.progress arc.0 ordinal es → StepTells s (step.Alias arc ordinal) u a b torn
   tells_alias arc ordinal (es, told, alias) =
       subst (λ (x : SimView). (es : History) × TellsAll x.run.net a b es × ((h : History) → HasTold x h → (tick : ℕ) × FirstAliasAt x.run (h ++ es) tick arc.0 ordinal)) (sym same)
@@ -63,7 +59,7 @@ module _ (s v u : SimView) (same : s ≡ v) (a b : Takes) (torn : Fails) where
       × ((h : History) → HasTold x h → IsFrontOfLegal x.run (h ++ (es ++ e ∷ [])))) (sym same)
       (es, e, all, one, takes, λ h has. front h has.reaches)
 
--- it stopped, found an alias, or no memory
+-- it stopped, or found an alias
 module _ (s v u : SimView) (same : s ≡ v) (a b : Takes) (torn : Fails) (d : Halt) (Whole : Bool → History → Type 0)
     (told : TellsPart {T = Bool} v.run.net (Err d) a b torn Whole (AdvanceFront v.run v.next v.progress) (CarriesAlias v.run v.next 0 v.progress)) where
   abbrev Told : Halt → Type 0
@@ -74,9 +70,6 @@ module _ (s v u : SimView) (same : s ≡ v) (a b : Takes) (torn : Fails) (d : Ha
 
   pub finds_alias : (arc : ArcId) (ordinal : ℕ) → d ≡ Alias arc ordinal → StepTells s (step.Alias arc ordinal) u a b torn
   finds_alias arc ordinal is = tells_alias s v u same a b torn arc ordinal (subst Told is told)
-
-  pub finds_no_memory : d ≡ Memory → StepTells s step.Memory u a b torn
-  finds_no_memory is = tells_part s v u same a b torn (subst Told is told)
 
 -- an alias by equal names
 pub same_alias : (s u : SimView) (a b : Takes) (torn : Fails) (x y : ArcId) (m n : ℕ) → x ≡ y → m ≡ n → StepTells s (step.Alias y n) u a b torn → StepTells s (step.Alias x m) u a b torn

@@ -1,14 +1,13 @@
 -- What was told by a part that tells one event, or none.
 use Rattle.std.proofs.Common.{◌≡◌, ℕ, [], ◌∷◌, ◌++◌, Result, Ok, Err, refl, sym, subst, append_assoc}
-use Rattle.std.specs.Result.{IsErr, IsErrAnd, OnOk}
+use Rattle.std.specs.Result.{OnOk}
 use Rattle.std.proofs.Common.{Bool, true, false}
 use mir.Val.{bool_byte}
-use Rattle.std.proofs.lemmas.Bool.{false≢true}
 use Rattle.std.proofs.lemmas.List.{append-nil}
 use Rattle.pre_topo.specs.declared.network.Network.{Network}
 use Rattle.pre_history.specs.History.{PlainEvent, History}
 use Rattle.pre_sim.specs.declared.halts.Halt.{Halt}
-use Rattle.pre_sim.specs.declared.halts.Halt.TheVariants.{Stopped, Memory, Alias}
+use Rattle.pre_sim.specs.declared.halts.Halt.TheVariants.{Stopped, Alias}
 use Rattle.pre_sim.specs.Telling.{TellsAll}
 use Rattle.pre_history.proofs.WrittenEvents.{AreWritten-append}
 use Rattle.pre_sim.specs.Told.{Takes, Fails, tells_nothing, tells_then}
@@ -23,23 +22,14 @@ pub part_of_one : {T : Type 0} (net : Network) (r : Result T Halt) (old new : Ta
     (Before : ℕ → ℕ → History → Type 0)
     → TellsOne net r old new torn e → ((x : T) → Whole x (e ∷ [])) → Front (e ∷ []) → TellsPart net r old new torn Whole Front Before
 part_of_one net (Ok x) old new torn e Whole Front Before told is front = (e ∷ [], told, is x)
-part_of_one net (Err Memory) old new torn e Whole Front Before told is front = absurd told
 part_of_one net (Err (Alias arc ordinal)) old new torn e Whole Front Before told is front = absurd told
 part_of_one net (Err Stopped) old new torn e Whole Front Before told is front = ([], e, tt, told.0, λ base h t. subst (λ g. torn base g e) (sym (append-nil h)) (told.1 base h t), front)
-
--- want of memory before anything was told
-pub part_without_memory : {T : Type 0} (net : Network) (r : Result T Halt) (took : Takes) (torn : Fails) (Whole : T → History → Type 0) (Front : History → Type 0) (Before : ℕ → ℕ → History → Type 0)
-    → IsErr r → IsErrAnd r (λ e. e ≡ Memory) → Front [] → TellsPart net r took took torn Whole Front Before
-part_without_memory net (Ok x) took torn Whole Front Before err is front = absurd (false≢true err)
-part_without_memory net (Err d) took torn Whole Front Before err is front =
-    subst (λ x. TellsPart net (Err x) took took torn Whole Front Before) (sym is) ([], tells_nothing net took, front)
 
 -- a part that ended early, after others
 module _ {T U : Type 0} (net : Network) (r : Result T Halt) (s : Result U Halt) (a b c : Takes) (torn : Fails) (es : History)
     (Whole : T → History → Type 0) (Front : History → Type 0) (Before : ℕ → ℕ → History → Type 0) (Whole' : U → History → Type 0) (Front' : History → Type 0) (Before' : ℕ → ℕ → History → Type 0)
     (told : TellsAll net a b es) (more : (fs : History) → Front fs → Front' (es ++ fs)) (before : (x i : ℕ) (fs : History) → Before x i fs → Before' x i (es ++ fs)) where
   early : (d : Halt) → TellsPart {T = T} net (Err d) b c torn Whole Front Before → TellsPart {T = U} net (Err d) a c torn Whole' Front' Before'
-  early Memory q = (es ++ q.0, tells_then net a b c es q.0 told q.1, more q.0 q.2)
   early (Alias arc ordinal) q = (es ++ q.0, tells_then net a b c es q.0 told q.1, before arc.0 ordinal q.0 q.2)
   early Stopped q = (
     es ++ q.0,

@@ -1,7 +1,7 @@
 -- What goes on the wire at the end of an mPacket.
 use Rattle.std.specs.Prelude.{ℕ, ◌≡◌, ◌<◌, ◌+◌, List, ◌++◌, length, set, true, Option, Some, None}
 use Rattle.pre_rings.specs.declared.slots.FrameRef.{FrameRef}
-use Rattle.pre_mpacket.specs.Spelling.{head_of}
+use Rattle.pre_mpacket.specs.Spelling.{PlainPacket, head_of}
 use Rattle.pre_send.specs.Endings.{plans_end}
 use Rattle.pre_send.specs.Owned.{frames_of}
 use Rattle.pre_history.specs.Scenario.{Scenario}
@@ -18,9 +18,15 @@ abbrev pub without : Store → Option FrameRef → Store
 without store None = store
 without store (Some f) = set store f.slot None
 
+-- this is the mPacket that leaves, wherever a history leads to its end
+abbrev pub LeavesAs : Store → Outgoing → PlainPacket → Type 0
+LeavesAs store o m =
+    (w : Scenario) (past : History) (t a : ℕ) → a < length w.net.arcs → LegalUpTo w (number (length w.net.arcs) t (1 + a)) past → Sends w past a t true o
+    → AreStored w store (frames_of o.sender) → plans_end o.sender ≡ Some t → Leaves w past t a m
+
 -- Its octets are those of the mPacket that leaves.
-pub record IsLeaving (store : Store) (o : Outgoing) (l : Leaving) : Type 0 where
+pub record IsLeaving (store : Store) (o : Outgoing) (l : Leaving) (sent : List ℕ) : Type 0 where
   pub mdata : List ℕ
-  pub octets : l.octets.items ≡ head_of l.kind ++ mdata ++ l.check
-  pub leaves : (w : Scenario) (past : History) (t a : ℕ) → a < length w.net.arcs → LegalUpTo w (number (length w.net.arcs) t (1 + a)) past → Sends w past a t true o
-      → AreStored w store (frames_of o.sender) → plans_end o.sender ≡ Some t → Leaves w past t a (record { kind = l.kind; mdata = mdata; check = l.check })
+  pub octets : sent ≡ head_of l.kind ++ mdata ++ l.check
+  pub count : length sent ≡ l.count
+  pub leaves : LeavesAs store o (record { kind = l.kind; mdata = mdata; check = l.check })

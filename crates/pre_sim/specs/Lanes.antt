@@ -18,7 +18,7 @@ pub record IsIdle (timing : Timing) (a : Arc) (lane : Lane) : Type 0 where
   pub rings : lane.rings ≡ record { frames = replicate 8 []; capacities = a.rings }
   pub outgoing : (w : Scenario) (i : ℕ) → (arc w i).cost ≡ a.cost → (arc w i).add_frag ≡ a.add_frag → Sends w [] i 0 true lane.outgoing
   pub sending : frames_of lane.outgoing.sender ≡ []
-  pub incoming : (w : Scenario) (i : ℕ) → Receives w [] i lane.incoming
+  pub incoming : (w : Scenario) (i : ℕ) → (arc w i).delay ≡ a.delay → (arc w i).cost ≡ a.cost → Receives w [] i lane.incoming
   pub partner : (w : Scenario) (i : ℕ) → w.net.timing.unit ≡ timing.unit → Hears w [] i lane.partner
   pub set : lane.setting ≡ setting.On
   pub link : (w : Scenario) (i : ℕ) → w.net.timing.verify ≡ timing.verify → LinkStands w [] i 0 lane.link

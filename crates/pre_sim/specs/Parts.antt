@@ -20,7 +20,7 @@ use Rattle.pre_bridge.specs.Relays.{Stands}
 use Rattle.pre_links.specs.declared.partners.Partner.{Partner}
 use Rattle.pre_links.specs.Listening.{Hears}
 use Rattle.pre_sim.specs.declared.halts.Halt.{Halt}
-use Rattle.pre_sim.specs.declared.halts.Halt.TheVariants.{Stopped, Memory, Alias}
+use Rattle.pre_sim.specs.declared.halts.Halt.TheVariants.{Stopped, Alias}
 use Rattle.pre_sim.specs.declared.plans.Plan.{Plan}
 use Rattle.pre_sim.specs.declared.ticks.Progress.{Progress}
 use Rattle.pre_sim.specs.declared.lanes.Lane.{Lane}
@@ -35,7 +35,6 @@ use Rattle.pre_sim.specs.Sends.{ComesPart, ComesFront, KeepsCome, comes_to, drop
 abbrev pub TellsPart : {T : Type 0} → Network → Result T Halt → (List ℕ → History → Type 0) → (List ℕ → History → Type 0) → (List ℕ → History → PlainEvent → Type 0)
     → (T → History → Type 0) → (History → Type 0) → (ℕ → ℕ → History → Type 0) → Type 0
 TellsPart net (Ok x) old new torn Whole Front Before = (es : History) × TellsAll net old new es × Whole x es
-TellsPart net (Err Memory) old new torn Whole Front Before = (es : History) × TellsAll net old new es × Front es
 TellsPart net (Err (Alias arc ordinal)) old new torn Whole Front Before = (es : History) × TellsAll net old new es × Before arc.0 ordinal es
 TellsPart net (Err Stopped) old new torn Whole Front Before =
     (es : History) × (e : PlainEvent) × AreWritten net es × IsWritten net e × ((base : List ℕ) (h : History) → old base h → torn base (h ++ es) e) × Front (es ++ e ∷ [])
@@ -47,7 +46,6 @@ NoArrival a i es = ⊥
 -- this event was told, or the watcher failed at it
 abbrev pub TellsOne : {T : Type 0} → Network → Result T Halt → (List ℕ → History → Type 0) → (List ℕ → History → Type 0) → (List ℕ → History → PlainEvent → Type 0) → PlainEvent → Type 0
 TellsOne net (Ok x) old new torn e = TellsAll net old new (e ∷ [])
-TellsOne net (Err Memory) old new torn e = ⊥
 TellsOne net (Err (Alias arc ordinal)) old new torn e = ⊥
 TellsOne net (Err Stopped) old new torn e = IsWritten net e × ((base : List ℕ) (h : History) → old base h → torn base h e)
 
@@ -131,6 +129,10 @@ pub record LanesPart (w : Scenario) (t k n delivered : ℕ) (store store' : Stor
 
 abbrev pub LanesFront : (w : Scenario) (t k : ℕ) (old : List Lane) → History → Type 0
 LanesFront w t k old es = (h : History) (entries : List Entry) → LegalAt w t k h → LanesStand w h t k old entries → IsFront w (h ++ es)
+
+-- some history leads there
+abbrev pub LanesReached : (w : Scenario) (t k : ℕ) (old : List Lane) → Type 0
+LanesReached w t k old = (h : History) × (entries : List Entry) × LegalAt w t k h × LanesStand w h t k old entries
 
 -- the part of an arc, or of the first n of them, at which frames arrive and go into the relay
 abbrev pub ArrivalPart : (w : Scenario) (t a delivered : ℕ) → (store store' : Store) → (relay relay' : Relay) → (old new : Lane) → History → Type 0

@@ -12,6 +12,7 @@ use Rattle.pre_send.specs.Senders.{is_free, is_interrupted}
 use Rattle.pre_history.specs.Scenario.{Scenario, arc, send}
 use Rattle.pre_history.specs.History.{History}
 use Rattle.pre_history.specs.LinkState.{Active}
+use Rattle.pre_incoming.specs.Flights.{on_wire}
 use Rattle.pre_incoming.specs.Arriving.{IsNotDue}
 use Rattle.pre_bridge.specs.declared.relays.Relay.{Relay}
 use Rattle.pre_bridge.specs.Inside.{Call, Entry, inside}
@@ -48,7 +49,7 @@ LinkRestsAt interval t partner link = (s : ℕ) × (t ≡ s + 1) × LinkRests in
 pub record LaneRests (w : Scenario) (t a : ℕ) (partner : Partner) (lane : Lane) : Type 0 where
   pub link : (arc w a).mode ≡ mode.Negotiate → LinkRestsAt w.net.timing.interval t partner lane.link
   pub no_end : plans_end lane.outgoing.sender ≢ Some t
-  pub no_arrival : IsNotDue t lane.incoming.wire.items
+  pub no_arrival : IsNotDue t (on_wire lane.incoming.wire)
   pub no_start : (is_free lane.outgoing.sender t ≡ false) ⊎ IsEmpty lane ⊎ IsHeld (arc w a) lane
 
 -- So it is of an arc of these, with what was received of its link partner.

@@ -5,7 +5,7 @@ use Rattle.pre_history.specs.History.{PlainEvent, History}
 use Rattle.pre_history.specs.Written.{IsWritten, AreWritten}
 use Rattle.pre_history.specs.Legal.{Legal, FirstAliasAt}
 use Rattle.pre_sim.specs.declared.runs.Step.{Step}
-use Rattle.pre_sim.specs.declared.runs.Step.TheVariants.{More, Ended, Alias, Stopped, Memory}
+use Rattle.pre_sim.specs.declared.runs.Step.TheVariants.{More, Ended, Alias, Stopped}
 use Rattle.pre_sim.specs.Telling.{TellsAll}
 use Rattle.pre_sim.specs.Parts.{IsFrontOfLegal}
 use Rattle.pre_sim.specs.Views.{SimView, HasTold}
@@ -15,7 +15,6 @@ is_more More = true
 is_more Ended = false
 is_more (Alias arc ordinal) = false
 is_more Stopped = false
-is_more Memory = false
 
 -- What the watcher was told, by the watcher's relations before and after. The events of the tick follow those told so
 -- far; on Ended all of them are a legal history; where the run stopped early they are the front of one, with the event at
@@ -28,7 +27,6 @@ StepTells old (Alias arc ordinal) new took took' torn =
 StepTells old Stopped new took took' torn =
     (es : History) × (e : PlainEvent) × AreWritten old.run.net es × IsWritten old.run.net e × ((base : List ℕ) (h : History) → took base h → torn base (h ++ es) e)
     × ((h : History) → HasTold old h → IsFrontOfLegal old.run (h ++ (es ++ e ∷ [])))
-StepTells old Memory new took took' torn = (es : History) × TellsAll old.run.net took took' es × ((h : History) → HasTold old h → IsFrontOfLegal old.run (h ++ es))
 
 -- it moves to a later tick, up to the last one, which ends the run
 abbrev pub StepMoves : Step → SimView → SimView → Type 0
@@ -36,7 +34,6 @@ StepMoves More old new = (old.next < new.next) × (new.next ≤ new.run.script.u
 StepMoves Ended old new = old.next ≡ old.run.script.until.0
 StepMoves (Alias arc ordinal) old new = Unit {0}
 StepMoves Stopped old new = Unit {0}
-StepMoves Memory old new = Unit {0}
 
 -- the count of the watcher's faults, which rose where it stopped the run
 abbrev pub StepCause : Step → ℕ → ℕ → Type 0
@@ -44,4 +41,3 @@ StepCause More before now = before ≤ now
 StepCause Ended before now = before ≤ now
 StepCause (Alias arc ordinal) before now = before ≤ now
 StepCause Stopped before now = (before ≤ now) × Rose before now
-StepCause Memory before now = before ≤ now

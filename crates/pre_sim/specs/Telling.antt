@@ -5,7 +5,7 @@ use Rattle.pre_topo.specs.declared.network.Network.{Network}
 use Rattle.pre_history.specs.History.{History}
 use Rattle.pre_history.specs.Written.{AreWritten}
 use Rattle.pre_sim.specs.declared.halts.Halt.{Halt}
-use Rattle.pre_sim.specs.declared.halts.Halt.TheVariants.{Stopped, Memory, Alias}
+use Rattle.pre_sim.specs.declared.halts.Halt.TheVariants.{Stopped, Alias}
 
 -- these events, which can be told over the network, were told, in order
 abbrev pub TellsAll : Network → (List ℕ → History → Type 0) → (List ℕ → History → Type 0) → History → Type 0
@@ -14,7 +14,6 @@ TellsAll net old new es = AreWritten net es × ((base : List ℕ) (h : History) 
 -- a part stops only where the watcher failed
 abbrev pub OnStopped : {T : Type 0} → Result T Halt → Type 0 → Type 0
 OnStopped (Ok x) P = Unit {0}
-OnStopped (Err Memory) P = Unit {0}
 OnStopped (Err (Alias arc ordinal)) P = Unit {0}
 OnStopped (Err Stopped) P = P
 

@@ -53,11 +53,6 @@ step_then s t u (step.Alias arc ordinal) a b c torn (es, told, same, goes) q = (
   λ h has. subst (λ (w : Scenario). (tick : ℕ) × FirstAliasAt w (h ++ (es ++ q.0)) tick arc.0 ordinal) same
       (subst (λ g. (tick : ℕ) × FirstAliasAt t.run g tick arc.0 ordinal) (append_assoc h es q.0) (q.2 (h ++ es) (goes h has))),
 )
-step_then s t u step.Memory a b c torn (es, told, same, goes) q = (
-  es ++ q.0,
-  tells_then s.run.net a b c es q.0 told (subst (λ (w : Scenario). TellsAll w.net b c q.0) same q.1),
-  λ h has. subst (λ (w : Scenario). IsFrontOfLegal w (h ++ (es ++ q.0))) same (subst (IsFrontOfLegal t.run) (append_assoc h es q.0) (q.2 (h ++ es) (goes h has))),
-)
 step_then s t u step.Stopped a b c torn (es, told, same, goes) q =
     let all : AreWritten s.run.net q.0 = subst (λ (w : Scenario). AreWritten w.net q.0) same q.2 in
     let one : IsWritten s.run.net q.1 = subst (λ (w : Scenario). IsWritten w.net q.1) same q.3 in (

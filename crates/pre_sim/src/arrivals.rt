@@ -68,7 +68,13 @@ pub(crate) fn arrive_on<W: Watcher>(
     let Some(outcome) = outcome_of(landing.given) else {
         return Err(Halt::Alias { arc, ordinal });
     };
-    listen(&mut lane.partner, now, landing.given, landing.size, &*octets);
+    listen(
+        &mut lane.partner,
+        now,
+        landing.given,
+        landing.size,
+        &*octets,
+    );
     tell_arrival(plan.net, now, arc, ordinal, outcome, watcher)?;
     let Landed::Frame(frame) = landing.given else {
         return Ok(false);

@@ -34,6 +34,7 @@ impl Lane {
     /// Nothing is on the arc, and nothing waits in its rings.
     pub fn idle(alloc: Global, timing: &Timing, arc: &Arc) -> Result<Lane, AllocError>
         requires cost { (1 ≤ arc.now.cost) × (arc.now.cost ≤ 1000) }
+        requires delay { arc.now.delay ≤ 10 ^ 9 }
         requires add_frag { arc.now.add_frag ≤ 3 }
         requires unit { timing.now.unit ≤ 10 ^ 9 }
         requires verify { timing.now.verify ≤ 10 ^ 12 }
@@ -42,7 +43,7 @@ impl Lane {
         Ok(Lane {
             rings: PortRings::make(alloc, arc.rings)?,
             outgoing: Outgoing::idle(arc.cost, arc.add_frag),
-            incoming: Incoming::make(alloc)?,
+            incoming: Incoming::make(alloc, arc.delay, arc.cost)?,
             partner: Partner::unheard(timing.unit),
             setting: Setting::On,
             link: Link::idle(timing.verify),

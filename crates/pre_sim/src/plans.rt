@@ -5,12 +5,10 @@ use pre_incoming::Inputs;
 use pre_script::Script;
 use pre_streams::Streams;
 use pre_topo::{Arc, Network};
-use std::alloc::Global;
 
 /// All that a run is given.
 #[derive(Clone, Copy)]
 pub(crate) struct Plan<'a> {
-    pub alloc: Global,
     pub net: &'a Network,
     pub streams: &'a Streams,
     pub script: &'a Script,

@@ -27,8 +27,6 @@ pub enum Step {
     Alias { arc: ArcId, ordinal: u64 },
     /// The watcher failed.
     Stopped,
-    /// Want of memory.
-    Memory,
 }
 
 /// The run of a script over a network and streams.
@@ -62,7 +60,7 @@ impl<'a> Sim<'a> {
     ghost use Rattle.pre_sim.specs.Views.{HasTold};
     ghost use Rattle.pre_sim.specs.Steps.{is_more, StepTells, StepMoves, StepCause};
 
-    /// A run that is about to begin.
+    /// A run that is about to begin, with all the memory that it ever takes.
     pub fn make(
         alloc: Global,
         net: &'a Network,
@@ -74,7 +72,6 @@ impl<'a> Sim<'a> {
     {
         Ok(Sim {
             plan: Plan {
-                alloc,
                 net,
                 streams,
                 script,
@@ -127,10 +124,6 @@ impl<'a> Sim<'a> {
             Err(Halt::Alias { arc, ordinal }) => {
                 self.going = false;
                 Step::Alias { arc, ordinal }
-            }
-            Err(Halt::Memory) => {
-                self.going = false;
-                Step::Memory
             }
         }
     }

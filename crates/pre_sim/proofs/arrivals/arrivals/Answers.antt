@@ -39,7 +39,8 @@ arrive_on-requires-clause-keeps g c =
     found_at c.loop-arc.lanes c.loop-arc.arc c.index-lanes-arc.result (search rules) (sym c.index-lanes-arc.is) in
     let here : slice_get c.loop-arc.lanes c.loop-arc.arc ≡ Some lane = found ∙ ap Some c.index-lanes-arc.is in
     lane_kept w c.args.now.0 c.loop-arc.arc c.loop-arc.delivered 0 c.args.store.now c.loop-arc.store c.loop-arc.store c.args.relay.now c.loop-arc.relay c.loop-arc.relay
-    c.args.lanes.now c.loop-arc.lanes lane lane here (omega (arith, c.loop-arc.invariant.long)) (search rules, refl) before.0 [] before.2 (inside w.net w.streams c.requires.reached.calls) c.requires.reached.keeps
+    c.args.lanes.now c.loop-arc.lanes lane lane here (omega (arith, c.loop-arc.invariant.long)) (search rules, refl) before.0 [] before.2
+    (inside w.net w.streams c.requires.reached.calls) c.requires.reached.keeps
 
 pub arrive_on-requires-clause-reached : goal.arrive_on-requires-clause-reached
 arrive_on-requires-clause-reached g c =

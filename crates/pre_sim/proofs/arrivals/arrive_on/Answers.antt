@@ -1,9 +1,9 @@
-use Rattle.std.proofs.Common.{rules, ◌∷◌, [], refl, sym, subst, take, None}
+use Rattle.std.proofs.Common.{rules, ◌∷◌, [], refl, sym, subst, None}
 use Rattle.std.proofs.lemmas.Bool.{false≢true}
 use Rattle.pre_history.specs.Moments.{Phase}
 use Rattle.pre_history.specs.Scenario.{Scenario, FrameOf}
 use Rattle.pre_history.specs.Rules.{arrival}
-use Rattle.pre_sim.specs.Arriving.{KeepsInside, Listens, delivered_at}
+use Rattle.pre_sim.specs.Arriving.{KeepsInside, delivered_at}
 use Rattle.pre_sim.specs.Telling.{TellsAll}
 use Rattle.pre_sim.specs.Told.{tells_nothing, tells_then}
 use Rattle.pre_sim.specs.Parts.{ArrivalPart, LaneAlias, LaneFront, TellsOne, count_of, scenario_of}
@@ -111,7 +111,8 @@ returns-then-keep_inside-clause-part g c =
       unheard = c.listen.ensures.unheard;
     } in
     let user : GivesFrame w t a old c.land.new.incoming x c.land.new.into f =
-    gives_frame w t a old c.land.new.incoming x c.land.new.into (routed w c.requires.fit) (leads w t a old relay store c.requires.reached) c.in-Some.ensures.lands f c.in-Frame.is c.in-Some.ensures.frame in
+    gives_frame w t a old c.land.new.incoming x c.land.new.into (routed w c.requires.fit) (leads w t a old relay store c.requires.reached)
+    c.in-Some.ensures.lands f c.in-Frame.is c.in-Some.ensures.frame in
     let keeps = subst (KeepsInside w t a f store c.keep_inside.new.store relay c.keep_inside.new.relay) c.if-keep_inside.true c.keep_inside.ensures.inside in (
       arrival t a x.ord r ∷ [],
       c.in_ok-tell_arrival.ensures.one,
@@ -138,7 +139,8 @@ returns-in_err-deliver-clause-part g c =
       unheard = c.listen.ensures.unheard;
     } in
     let user : GivesFrame w t a old c.land.new.incoming x c.land.new.into f =
-    gives_frame w t a old c.land.new.incoming x c.land.new.into (routed w c.requires.fit) (leads w t a old relay store c.requires.reached) c.in-Some.ensures.lands f c.in-Frame.is c.in-Some.ensures.frame in
+    gives_frame w t a old c.land.new.incoming x c.land.new.into (routed w c.requires.fit) (leads w t a old relay store c.requires.reached)
+    c.in-Some.ensures.lands f c.in-Frame.is c.in-Some.ensures.frame in
     let along = c.route_law.ensures.along w.net w.streams c.requires.fit.streams_fit in
     let keeps = subst (KeepsInside w t a f store c.keep_inside.new.store relay c.keep_inside.new.relay) c.if-keep_inside.false c.keep_inside.ensures.inside in
     let last = ends_here w t a c.requires.arc c.adverts_are_sent.ensures old c.land.new.incoming c.listen.new.partner x c.land.new.into r landed
@@ -173,7 +175,8 @@ returns-clause-part g c =
       unheard = c.listen.ensures.unheard;
     } in
     let user : GivesFrame w t a old c.land.new.incoming x c.land.new.into f =
-    gives_frame w t a old c.land.new.incoming x c.land.new.into (routed w c.requires.fit) (leads w t a old relay store c.requires.reached) c.in-Some.ensures.lands f c.in-Frame.is c.in-Some.ensures.frame in
+    gives_frame w t a old c.land.new.incoming x c.land.new.into (routed w c.requires.fit) (leads w t a old relay store c.requires.reached)
+    c.in-Some.ensures.lands f c.in-Frame.is c.in-Some.ensures.frame in
     let keeps = subst (KeepsInside w t a f store c.keep_inside.new.store relay c.keep_inside.new.relay) c.if-keep_inside.false c.keep_inside.ensures.inside in
     let told = subst (λ octets. TellsAll w.net (g.W.Watcher.took c.tell_arrival.new.watcher) (g.W.Watcher.took c.deliver.new.watcher) (delivered_at w.net t a f octets ∷ []))
     user.octets c.in_ok-deliver.ensures.one in (

@@ -3,6 +3,7 @@ use Rattle.std.specs.Prelude.{slice_get, slice_index_or, None}
 use Rattle.pre_history.specs.Moments.{Phase}
 use Rattle.pre_history.specs.Scenario.{Scenario}
 use Rattle.std.proofs.lemmas.List.{length-set}
+use Rattle.pre_bridge.specs.Inside.{of_arc}
 use Rattle.pre_sim.specs.Keeps.{Keeps}
 use Rattle.pre_sim.specs.Parts.{LanePart, LaneFront, LanesPart, scenario_of}
 use Rattle.pre_sim.specs.Told.{tells_nothing, tells_then}
@@ -30,6 +31,17 @@ end_on-requires-clause-keeps g c =
     let here : slice_get c.loop-arc.lanes c.loop-arc.arc ≡ Some lane = found ∙ ap Some c.index-lanes-arc.is in
     let now = before.2.keeps c.requires.keeps.0 (subst (λ xs. Keeps (scenario_of c.args.plan.now) c.args.store.now c.args.lanes.now xs []) refl c.requires.keeps.1) in
     now.apart.each_lane c.loop-arc.arc lane here
+
+pub end_on-requires-clause-reached : goal.end_on-requires-clause-reached
+end_on-requires-clause-reached g c =
+    let before = c.loop-arc.invariant.part in
+    let lane = slice_index_or c.loop-arc.lanes c.loop-arc.arc c.index-lanes-arc.result in
+    let found : slice_get c.loop-arc.lanes c.loop-arc.arc ≡ Some c.index-lanes-arc.result = found_at c.loop-arc.lanes c.loop-arc.arc c.index-lanes-arc.result (search rules)
+    (sym c.index-lanes-arc.is) in
+    let here : slice_get c.loop-arc.lanes c.loop-arc.arc ≡ Some lane = found ∙ ap Some c.index-lanes-arc.is in
+    let from = c.requires.reached in
+    let now = before.2.legal from.0 from.1 from.2 from.3 in
+    (from.0 ++ before.0, of_arc c.loop-arc.arc (from.1 ++ []), record { legal = now.0; hears = tt; stands = now.1 c.loop-arc.arc lane here })
 
 pub end_on-requires-clause-ready : goal.end_on-requires-clause-ready
 end_on-requires-clause-ready g c =

@@ -14,7 +14,8 @@ pub come-requires-clause-keeps : goal.come-requires-clause-keeps
 come-requires-clause-keeps g c =
     let w = scenario_of c.args.plan.now in
     let keeps = c.requires.keeps in
-    (keeps.0, keep_sent w c.frame_of-frame.result (FrameOf w c.args.number) c.args.store.now c.frame_of-frame.new.store c.args.lanes.now keeps.0 c.frame_of-frame.ensures.frame c.frame_of-frame.ensures.stored keeps.1)
+    let f = c.frame_of-frame.result in
+    (keeps.0, keep_sent w f (FrameOf w c.args.number) c.args.store.now c.frame_of-frame.new.store c.args.lanes.now keeps.0 c.frame_of-frame.ensures.frame c.frame_of-frame.ensures.stored keeps.1)
 
 pub come-requires-clause-over : goal.come-requires-clause-over
 come-requires-clause-over g c =

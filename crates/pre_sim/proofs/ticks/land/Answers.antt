@@ -5,7 +5,7 @@ use Rattle.pre_sim.specs.Parts.{LanesPart, LanesFront, SetsFront, ArrivalsAlias,
 use Rattle.pre_sim.specs.Told.{tells_nothing, tells_then}
 use Rattle.pre_sim.proofs.TellParts.{then_front, then_early}
 use Rattle.pre_sim.proofs.Readiness.{still_ready}
-use Rattle.pre_sim.proofs.LandParts.{sets_lead, sets_front, lead_on, lead_front, lead_alias, lead_reached, landed, landed_kept, twice, thrice}
+use Rattle.pre_sim.proofs.LandParts.{sets_lead, sets_front, lead_on, lead_front, lead_alias, lead_lanes, lead_reached, landed, landed_kept, twice, thrice}
 use Rattle.pre_sim.proofs.ticks.land.Goals as goal
 
 pub returns-in_err-sets-clause-part : goal.returns-in_err-sets-clause-part
@@ -18,6 +18,15 @@ returns-in_err-sets-clause-part g c =
     _ (SetsFront w t old) _ _ _
     (tells_nothing c.args.plan.now.net.now (g.W.Watcher.took c.args.watcher.now)) c.sets.ensures.part (λ es front. sets_front w t old es front)
     c.in_err-sets.field-0.0 c.in_err-sets.was (search rules)
+
+pub ends-requires-clause-reached : goal.ends-requires-clause-reached
+ends-requires-clause-reached g c =
+    let w = scenario_of c.args.plan.now in
+    let t = c.args.now.0 in
+    let old = c.args.progress.now in
+    let first = c.in_ok-sets.ensures.part in
+    let set = sets_lead w t old c.sets.new.progress first.0 first.2 in
+    lead_lanes w t old 1 _ _ _ _ _ first.0 set c.deref_mut.result.now c.deref_mut.ensures.value c.requires.reached
 
 pub ends-requires-clause-ready : goal.ends-requires-clause-ready
 ends-requires-clause-ready g c =
@@ -46,7 +55,8 @@ arrivals-requires-clause-reached g c =
     let second = c.in_ok-ends.ensures.part in
     let back : c.deref_mut-2.result.now ≡ c.ends.new.lanes = c.deref_mut-2.ensures.value ∙ take_at c.ends.new.lanes _ c.sets.new.progress.lanes.len (search rules) in
     let ended = lead_on w t old 1 _ _ _ _ _ first.0 set c.deref_mut.result.now c.deref_mut.ensures.value (length w.net.arcs) 0 c.ends.new.store c.ends.new.lanes [] second.0 second.2 in
-    lead_reached w t old (1 + length w.net.arcs) _ _ _ _ _ (first.0 ++ second.0) ended c.deref_mut-2.result.now back refl c.sets.new.progress.relay first.2.kept.0 refl c.requires.reached c.requires.kept
+    lead_reached w t old (1 + length w.net.arcs) _ _ _ _ _ (first.0 ++ second.0) ended c.deref_mut-2.result.now back refl
+    c.sets.new.progress.relay first.2.kept.0 refl c.requires.reached c.requires.kept
 
 pub arrivals-requires-clause-ready : goal.arrivals-requires-clause-ready
 arrivals-requires-clause-ready g c =

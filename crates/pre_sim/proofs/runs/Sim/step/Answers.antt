@@ -1,7 +1,7 @@
 use Rattle.std.proofs.Common.{rules, refl, sym, subst, arith, ◌+◌, ◌≤◌, ◌++◌}
 use Rattle.pre_sim.specs.Parts.{TickPart, AdvancePart, scenario_of}
 use Rattle.pre_sim.specs.Views.{SimView}
-use Rattle.pre_sim.proofs.StepParts.{tells_more, tells_ended, stops, finds_alias, finds_no_memory, same_alias, not_last, kept_later, within_later, ready_later}
+use Rattle.pre_sim.proofs.StepParts.{tells_more, tells_ended, stops, finds_alias, same_alias, not_last, kept_later, within_later, ready_later}
 use Rattle.pre_sim.proofs.RestingTicks.{rests_to}
 use Rattle.pre_sim.proofs.runs.Sim.step.Goals as goal
 
@@ -28,12 +28,6 @@ returns-in-Err-Stopped-clause-told g c =
     let old : SimView = record { run = scenario_of c.self.inside.plan; progress = c.self.inside.progress; next = c.self.inside.next.0; going = c.self.inside.going } in
     stops c.args.self.now old old (sym c.self.view_is) (g.W.Watcher.took c.args.watcher.now) (g.W.Watcher.took c.advance.new.watcher)
     (g.W.Watcher.torn c.advance.new.watcher) c.in-Err-Stopped.field-0 _ c.in-Err-Stopped.ensures.part c.in-Err-Stopped.field-0-is
-
-pub returns-in-Err-Memory-clause-told : goal.returns-in-Err-Memory-clause-told
-returns-in-Err-Memory-clause-told g c =
-    let old : SimView = record { run = scenario_of c.self.inside.plan; progress = c.self.inside.progress; next = c.self.inside.next.0; going = c.self.inside.going } in
-    finds_no_memory c.args.self.now old old (sym c.self.view_is) (g.W.Watcher.took c.args.watcher.now) (g.W.Watcher.took c.advance.new.watcher)
-    (g.W.Watcher.torn c.advance.new.watcher) c.in-Err-Memory.field-0 _ c.in-Err-Memory.ensures.part c.in-Err-Memory.field-0-is
 
 pub returns-in-Err-Alias-clause-told : goal.returns-in-Err-Alias-clause-told
 returns-in-Err-Alias-clause-told g c =
