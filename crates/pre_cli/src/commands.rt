@@ -7,9 +7,14 @@ use pre_text::number;
 /// What the words ask for, with the words behind the command's name.
 pub(crate) enum Asked<'a> {
     /// `certify NET STREAMS`
-    Certifies { net: &'a str, streams: &'a str },
+    Certifies {
+        net: &'a str,
+        streams: &'a str,
+    },
     /// `mpackets FILE`
-    Lists { file: &'a str },
+    Lists {
+        file: &'a str,
+    },
     /// `judge NET STREAMS CERT`
     Judges {
         net: &'a str,

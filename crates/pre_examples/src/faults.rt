@@ -1,6 +1,7 @@
 //! Each call of the shelf and each call of the sink fails once, in each command, and each command octet by octet.
 
-ghost use Rattle.std.specs.Prelude.{None};
+ghost use Rattle.std.specs.Prelude.{◌≡◌, ◌≤◌, None};
+ghost use Rattle.pre_base.specs.Faults.{Rose};
 
 use crate::certificates::{PAIR, TWO_HOPS};
 use crate::listings::PACKETS;
@@ -68,6 +69,19 @@ fn good_text(alloc: Global, command: &str) -> Result<MemorySink, AllocError> {
 #[derive(Drop)]
 struct OctetShelf {
     files: MemoryShelf,
+    faults: u64,
+}
+
+impl OctetShelf {
+    /// Counts a call that failed.
+    fn failed(&mut self) -> Failed
+        ensures later { self.old.faults ≤ self.new.faults }
+        ensures faults { Rose self.old.faults self.new.faults }
+        ensures files { self.new.files ≡ self.old.files }
+    {
+        self.faults = self.faults.saturating_add(1);
+        Failed
+    }
 }
 
 impl Shelf for OctetShelf {
@@ -75,15 +89,21 @@ impl Shelf for OctetShelf {
 
     ghost handed = { λ s. s.files.handed };
 
-    ghost faults = { λ s. s.files.faults };
+    ghost faults = { λ s. s.faults };
 
     fn select(&mut self, name: &str) -> Result<(), Failed> {
-        self.files.select(name)
+        match self.files.select(name) {
+            Ok(()) => Ok(()),
+            Err(_) => Err(self.failed()),
+        }
     }
 
     fn read(&mut self, into: &mut [u8]) -> Result<usize, Failed> {
         let room = into.len().min(1);
-        self.files.read(&mut into[..room])
+        match self.files.read(&mut into[..room]) {
+            Ok(count) => Ok(count),
+            Err(_) => Err(self.failed()),
+        }
     }
 
     fn handed(&self) -> u64 {
@@ -91,7 +111,7 @@ impl Shelf for OctetShelf {
     }
 
     fn faults(&self) -> u64 {
-        self.files.faults()
+        self.faults
     }
 }
 
@@ -146,7 +166,7 @@ fn octet_by_octet(rt: HostRuntime) -> Result<(), Fail> {
     for command in COMMANDS {
         let text = good_text(alloc, command)?;
         let files = good_files(alloc, &[])?;
-        let mut shelf = OctetShelf { files };
+        let mut shelf = OctetShelf { files, faults: 0 };
         let mut sink = MemorySink::make(alloc, 100_000, 1, &[])?;
         let status = done(alloc, command, &mut shelf, &mut sink)?;
         assert_eq!(rt; status.number(), 0, "{command}");

@@ -14,6 +14,3 @@ pub use incomings::Incoming;
 pub use landings::{Landed, Landing};
 pub use laws::{landings_are_arrivals, no_alias_so_far, other_events};
 pub use wires::{Flight, Wire};
-
-#[cfg(test)]
-mod tests;
