@@ -4,7 +4,7 @@ use Rattle.std.proofs.Math.Nat.{max-le}
 use Rattle.std.proofs.lemmas.Bool.{cases_Bool, eqb-true}
 use Rattle.std.proofs.lemmas.List.{append-nil}
 use Rattle.std.proofs.lemmas.List.Elements.{All-nil, All-cons}
-use Rattle.std.specs.Prelude.{slice_get, All, IsSome}
+use Rattle.std.specs.Prelude.{◌≢◌, slice_get, All, IsSome}
 use Rattle.pre_base.specs.declared.numbers.ArcId.{ArcId}
 use Rattle.pre_base.specs.declared.numbers.StreamId.{StreamId}
 use Rattle.pre_base.specs.Faults.{Rose}
@@ -23,7 +23,7 @@ use Rattle.pre_certify.specs.Refusals.{NoneRefuses}
 use Rattle.pre_check.proofs.Agreeing.{stream_due}
 use Rattle.pre_check.proofs.Lists.{from_map}
 use Rattle.pre_history.specs.Scenario.{Scenario, IsExpressFrame, row, send, no_row}
-use Rattle.pre_history.specs.History.{Delivery, History}
+use Rattle.pre_history.specs.History.{Delivery, PlainEvent, History}
 use Rattle.pre_history.specs.Queries.{Deliveries}
 use Rattle.pre_history.specs.Legal.{Legal}
 use Rattle.pre_history.specs.Deliveries.{DeliversOnce}
@@ -32,12 +32,32 @@ use Rattle.pre_delay.specs.Ports.{stream_of}
 use Rattle.pre_delay.specs.Timely.{Timely}
 use Rattle.pre_trace.specs.Figures.{ComeOnce, delay, figures_of, of_stream}
 use Rattle.pre_trace.specs.SummaryText.{summary_text}
+use Rattle.pre_sim.specs.declared.runs.Step.{Step}
+use Rattle.pre_sim.specs.declared.runs.Step.TheVariants.{More, Ended, Alias, Stopped}
+use Rattle.pre_sim.specs.Steps.{StepTells, StepCause}
+use Rattle.pre_sim.specs.Views.{SimView, HasTold}
 use Rattle.pre_cli.specs.declared.statuses.Status.{Status}
 use Rattle.pre_cli.specs.declared.statuses.Status.TheVariants as status
 use Rattle.pre_cli.specs.Certifying.{IsLeastRanked}
 use Rattle.pre_cli.specs.Drilling.{Drill, scenario, IsDrilled, DrillingCause, Drilled, DrilledFront, DrillingLeaves}
 use Rattle.pre_cli.specs.Listed.{IsFlushed}
 use Rattle.pre_cli.proofs.CurveLemmas.{at_lt}
+
+-- ---- a run that is summed up
+
+-- a watcher that had taken nothing took the legal history that the run told
+pub summed : (w : Scenario) (s u : SimView) (step : Step) (old new : List ℕ → History → Type 0) (torn : List ℕ → History → PlainEvent → Type 0) → s.run ≡ w → HasTold s [] → old [] []
+    → StepTells s step u old new torn → step ≡ Ended → (h : History) × Legal w h × new [] h
+summed w s u step old new torn same begun nothing told ended =
+    let t = subst (λ (x : Step). StepTells s x u old new torn) ended told in
+    (t.0, subst (λ (v : Scenario). Legal v t.0) same (t.2 [] begun), t.1.1 [] [] nothing)
+
+-- a watcher that never fails stops no run
+pub never_stopped : (step : Step) → StepCause step 0 0 → step ≢ Stopped
+never_stopped step cause stopped = none (subst (λ (x : Step). StepCause x 0 0) stopped cause)
+  where
+    none : StepCause Stopped 0 0 → ⊥
+    none (later, rose) = omega (arith, rose)
 
 -- ---- delays within bounds
 
@@ -65,10 +85,7 @@ module _ (w : Scenario) (h : History) (v : Values) (done : ℕ) (timely : Timely
   is_express i r is f same =
       let at : slice_get w.streams.rows (stream_of w f) ≡ Some r = ap (slice_get w.streams.rows) same ∙ is.row in
       let here : row w f ≡ r = read_one w.streams.rows (stream_of w f) r no_row at in
-      subst (λ (x : Row). IsExpressFrameRow x) (sym here) is.express
-    where
-      abbrev IsExpressFrameRow : Row → Type 0
-      IsExpressFrameRow x = IsSome x.curve
+      subst (λ (x : Row). IsSome x.curve) (sym here) is.express
 
   within : (i : ℕ) (r : Row) → IsStream w.streams.rows i r → (figures_of w.script h i).greatest ≤ v.bound i
   within i r is = greatest_within w.script i (v.bound i) 0 (Deliveries h) (omega arith) each
@@ -111,15 +128,18 @@ module _ (number : ℕ) (x : Drill number) (c : Certificate) (least : IsLeastRan
 
   pub flushed_leaves : (s : Status) (a b d : Option Taken) → All (λ bound. (figures_of x.script h bound.0.0).greatest ≤ bound.1) c.bounds
       → WhereTold a b (TakesWhole (summary_text x.net x.streams x.script h c.bounds number)) → IsFlushed s b d → DrillingLeaves number s a d
-  flushed_leaves status.Done a b d within took ends =
-      (x, c, WhereTold-join a b d _ _ (Drilled number x c) (λ p q r whole more. record {
-        certificate_is_least = least;
-        history = h;
-        history_is_legal = legal;
-        summary_is_its_text = more.0 ∙ whole;
-        summary_is_flushed = more.1;
-        delays_are_within_bounds = within;
-      }) took ends)
+  flushed_leaves status.Done a b d within took ends = (
+    x,
+    c,
+    WhereTold-join a b d _ _ (Drilled number x c) (λ p q r whole more. record {
+      certificate_is_least = least;
+      history = h;
+      history_is_legal = legal;
+      summary_is_its_text = more.0 ∙ whole;
+      summary_is_flushed = more.1;
+      delays_are_within_bounds = within;
+    }) took ends,
+  )
   flushed_leaves status.WriteFault a b d within took ends =
       let text = summary_text x.net x.streams x.script h c.bounds number in
       torn_leaves a d (WhereTold-join a b d _ _ (TakesFront text) (λ p q r whole more. ([], (text, sym (append-nil text), more ∙ whole))) took ends)

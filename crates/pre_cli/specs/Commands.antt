@@ -25,12 +25,12 @@ pub data Command : Type 0 where
   drills : ℕ → Command
   unknown : Command
 
--- what a command's name and the words behind it ask for, by their number
 -- a drill has a plain number up to 999,999,999
 abbrev pub drilling : Option ℕ → Command
 drilling (Some number) = if nat_lt number 1_000_000_000 then drills number else unknown
 drilling None = unknown
 
+-- what a command's name and the words behind it ask for, by their number
 abbrev pub with_one : List ℕ → List ℕ → Command
 with_one name word = if bytes_eq name (codes "mpackets") then lists word else if bytes_eq name (codes "drill") then drilling (number_of word) else unknown
 

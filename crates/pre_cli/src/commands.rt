@@ -35,7 +35,9 @@ pub(crate) enum Asked<'a> {
         script: &'a str,
     },
     /// `drill N`, N a plain number up to 999,999,999
-    Drills { number: u64 },
+    Drills {
+        number: u64,
+    },
     /// The words have none of these forms.
     Unknown,
 }

@@ -33,8 +33,28 @@ pub fn preempt<H: Shelf, S: Sink>(
     shelf: &mut H,
     sink: &mut S,
 ) -> Status
-    ensures cause { CauseOf result (map string_bytes words.now) (record { shelf_before = H.faults shelf.old; shelf_after = H.faults shelf.new; sink_before = S.faults sink.old; sink_after = S.faults sink.new; told_before = H.tells shelf.old; told_after = H.tells shelf.new; taken_before = S.tells sink.old; taken_after = S.tells sink.new }) }
-    ensures leaves { LeavesOf result (map string_bytes words.now) (record { shelf_before = H.faults shelf.old; shelf_after = H.faults shelf.new; sink_before = S.faults sink.old; sink_after = S.faults sink.new; told_before = H.tells shelf.old; told_after = H.tells shelf.new; taken_before = S.tells sink.old; taken_after = S.tells sink.new }) }
+    ensures cause { CauseOf result (map string_bytes words.now)
+        (record {
+          shelf_before = H.faults shelf.old;
+          shelf_after = H.faults shelf.new;
+          sink_before = S.faults sink.old;
+          sink_after = S.faults sink.new;
+          told_before = H.tells shelf.old;
+          told_after = H.tells shelf.new;
+          taken_before = S.tells sink.old;
+          taken_after = S.tells sink.new;
+        }) }
+    ensures leaves { LeavesOf result (map string_bytes words.now)
+        (record {
+          shelf_before = H.faults shelf.old;
+          shelf_after = H.faults shelf.new;
+          sink_before = S.faults sink.old;
+          sink_after = S.faults sink.new;
+          told_before = H.tells shelf.old;
+          told_after = H.tells shelf.new;
+          taken_before = S.tells sink.old;
+          taken_after = S.tells sink.new;
+        }) }
     ensures shelf_later { H.faults shelf.old ≤ H.faults shelf.new }
     ensures sink_later { S.faults sink.old ≤ S.faults sink.new }
 {
