@@ -19,7 +19,11 @@ use Rattle.pre_bound.specs.Good.{IsStream}
 use Rattle.pre_bound.specs.Listed.{Says, GoodCertificate, bound_row}
 use Rattle.pre_bound.specs.Places.{streams_of}
 use Rattle.pre_bound.specs.Values.{Values}
+use Rattle.pre_certify.specs.Causes.{Cause}
+use Rattle.pre_certify.specs.Refusals.{NoneRefuses, IsAlone}
 use Rattle.pre_certify.specs.Refusals.{NoneRefuses}
+use Rattle.pre_certify.specs.declared.unfit.Unfit.{Unfit}
+use Rattle.pre_certify.specs.declared.unfit.Unfit.TheVariants as unfit
 use Rattle.pre_check.proofs.Agreeing.{stream_due}
 use Rattle.pre_check.proofs.Lists.{from_map}
 use Rattle.pre_history.specs.Scenario.{Scenario, IsExpressFrame, row, send, no_row}
@@ -38,9 +42,10 @@ use Rattle.pre_sim.specs.Steps.{StepTells, StepCause}
 use Rattle.pre_sim.specs.Views.{SimView, HasTold}
 use Rattle.pre_cli.specs.declared.statuses.Status.{Status}
 use Rattle.pre_cli.specs.declared.statuses.Status.TheVariants as status
-use Rattle.pre_cli.specs.Certifying.{IsLeastRanked}
+use Rattle.pre_cli.specs.Certifying.{IsLeastRanked, unfit_status}
 use Rattle.pre_cli.specs.Drilling.{Drill, scenario, IsDrilled, DrillingCause, Drilled, DrilledFront, DrillingLeaves}
 use Rattle.pre_cli.specs.Listed.{IsFlushed}
+use Rattle.pre_cli.proofs.CertifyLemmas.{unfit_cause}
 use Rattle.pre_cli.proofs.CurveLemmas.{at_lt}
 
 -- ---- a run that is summed up
@@ -166,3 +171,11 @@ flushed_cause number x status.Words before between now a b drilled later ends ro
 flushed_cause number x (status.Rejected clause row) before between now a b drilled later ends rose = absurd ends
 flushed_cause number x (status.Unruly line) before between now a b drilled later ends rose = absurd ends
 flushed_cause number x (status.Alias arc ordinal) before between now a b drilled later ends rose = absurd ends
+
+-- a refusal of the certifier is answered with its cause
+pub refused_cause : (number : ℕ) (x : Drill number) (u : Unfit) (before now : ℕ) → Cause x.net x.streams.rows u → (u ≡ unfit.Memory) ⊎ IsAlone x.net x.streams u → DrillingCause number (unfit_status u) before now
+refused_cause number x (unfit.Overload arc) before now cause alone = (x, unfit_cause (unfit.Overload arc) x.net x.streams before now cause alone)
+refused_cause number x (unfit.Cycle arcs) before now cause alone = (x, unfit_cause (unfit.Cycle arcs) x.net x.streams before now cause alone)
+refused_cause number x (unfit.Large arc prio) before now cause alone = (x, unfit_cause (unfit.Large arc prio) x.net x.streams before now cause alone)
+refused_cause number x (unfit.Ring arc prio need) before now cause alone = (x, unfit_cause (unfit.Ring arc prio need) x.net x.streams before now cause alone)
+refused_cause number x unfit.Memory before now cause alone = tt

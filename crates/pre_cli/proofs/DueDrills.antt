@@ -43,8 +43,8 @@ module _ (one : (n : ℕ) (net other : Network) (streams others : Streams) (scri
     least : (y : Drill number) → HasLeast y.net y.streams → HasLeast x.net x.streams
     least y has = moved (λ p. HasLeast p.0 p.1.0) number y x has
 
-    unfit : (y : Drill number) (u : Unfit) → UnfitCause u y.net y.streams → UnfitCause u x.net x.streams
-    unfit y u cause = moved (λ p. UnfitCause u p.0 p.1.0) number y x cause
+    refused : (y : Drill number) (u : Unfit) → UnfitCause u y.net y.streams → UnfitCause u x.net x.streams
+    refused y u cause = moved (λ p. UnfitCause u p.0 p.1.0) number y x cause
 
     runs : (y : Drill number) (s : Status) → RunsTo (scenario y) s → RunsTo (scenario x) s
     runs y s to = moved (λ p. RunsTo (record { net = p.0; streams = p.1.0; script = p.1.1 }) s) number y x to
@@ -58,7 +58,7 @@ module _ (one : (n : ℕ) (net other : Network) (streams others : Streams) (scri
     pub drill_runs : (s t : Status) (before now : ℕ) → HasGood x.net x.streams → RunsTo (scenario x) t → DrillingCause number s before now → Goes t s before now
     drill_runs status.Done t before now good to (y, drilled) = inl (one_end status.Done t (runs y status.Done (inl (refl, drilled.1))) to)
     drill_runs status.WriteFault t before now good to (rose, y) = inr (inl (refl, rose))
-    drill_runs (status.Unfit u) t before now good to (y, cause) = absurd ((unfit y u cause).alone.none good)
+    drill_runs (status.Unfit u) t before now good to (y, cause) = absurd ((refused y u cause).alone.none good)
     drill_runs (status.Alias arc ordinal) t before now good to (y, has, first) =
         inl (one_end (status.Alias arc ordinal) t (runs y (status.Alias arc ordinal) (inr (arc, ordinal, refl, first))) to)
     drill_runs status.Memory t before now good to cause = inr (inr refl)
@@ -77,7 +77,7 @@ module _ (one : (n : ℕ) (net other : Network) (streams others : Streams) (scri
       drill_refuses status.Done before now (y, drilled) = absurd (none (least y drilled.0))
       drill_refuses status.WriteFault before now (rose, (y, drilled)) = absurd (none (least y drilled.0))
       drill_refuses (status.Unfit u) before now (y, cause) =
-          elim ((unfit y u cause).alone.others e why) [
+          elim ((refused y u cause).alone.others e why) [
             | inl memory ↦ absurd (not memory)
             | inr alike ↦ inl (u, alike, refl)
           ]
