@@ -22,3 +22,5 @@ pub mod CurveLemmas
 pub mod HeadlineLemmas
 pub mod DueReplaying
 pub mod Replayeds
+pub mod DrillLemmas
+pub mod DueDrills

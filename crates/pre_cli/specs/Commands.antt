@@ -1,6 +1,7 @@
 -- The command that the words ask for, and its causes.
-use Rattle.std.specs.Prelude.{◌≡◌, ℕ, List, [], ◌∷◌, codes, if◌then◌else◌}
+use Rattle.std.specs.Prelude.{◌≡◌, ℕ, List, [], ◌∷◌, codes, nat_lt, Option, Some, None, if◌then◌else◌}
 use Rattle.std.specs.Str.{bytes_eq}
+use Rattle.pre_text.specs.Words.{number_of}
 use Rattle.pre_cli.specs.declared.statuses.Status.{Status}
 use Rattle.pre_cli.specs.declared.statuses.Status.TheVariants as status
 use Rattle.pre_cli.specs.declared.commands.Asked.{Asked}
@@ -10,6 +11,7 @@ use Rattle.pre_cli.specs.Answers.{Outside}
 use Rattle.pre_cli.specs.Replaying.{ReplayingCause, ReplayingLeaves}
 use Rattle.pre_cli.specs.Readings.{AnswerCause, AnswerLeaves}
 use Rattle.pre_cli.specs.Judging.{judging, Accepts, AcceptsFront, Migrates, MigratesFront}
+use Rattle.pre_cli.specs.Drilling.{DrillingCause, DrillingLeaves}
 use Rattle.pre_cli.specs.Listed.{ListingCause, ListingLeaves}
 use Rattle.pre_cli.specs.Certifying.{CertifyingCause, CertifyingLeaves}
 
@@ -20,11 +22,17 @@ pub data Command : Type 0 where
   judges : JudgeWords → Command
   migrates : JudgeWords → Command
   replays : ReplayWords → Command
+  drills : ℕ → Command
   unknown : Command
+
+-- a drill has a plain number up to 999,999,999
+abbrev pub drilling : Option ℕ → Command
+drilling (Some number) = if nat_lt number 1_000_000_000 then drills number else unknown
+drilling None = unknown
 
 -- what a command's name and the words behind it ask for, by their number
 abbrev pub with_one : List ℕ → List ℕ → Command
-with_one name file = if bytes_eq name (codes "mpackets") then lists file else unknown
+with_one name word = if bytes_eq name (codes "mpackets") then lists word else if bytes_eq name (codes "drill") then drilling (number_of word) else unknown
 
 abbrev pub with_two : List ℕ → List ℕ → List ℕ → Command
 with_two name net streams = if bytes_eq name (codes "certify") then certifies net streams else unknown
@@ -36,7 +44,7 @@ abbrev pub with_four : List ℕ → ReplayWords → Command
 with_four name words = if bytes_eq name (codes "replay") then replays words else unknown
 
 abbrev pub command_of : List (List ℕ) → Command
-command_of (name ∷ file ∷ []) = with_one name file
+command_of (name ∷ word ∷ []) = with_one name word
 command_of (name ∷ net ∷ streams ∷ []) = with_two name net streams
 command_of (name ∷ net ∷ streams ∷ certificate ∷ []) = with_three name (judge_words net streams certificate)
 command_of (name ∷ net ∷ streams ∷ certificate ∷ script ∷ []) = with_four name (replay_words net streams certificate script)
@@ -49,6 +57,7 @@ command_asked (asked.Lists file) = lists file.now
 command_asked (asked.Judges net streams certificate) = judges (judge_words net.now streams.now certificate.now)
 command_asked (asked.Migrates net streams certificate) = migrates (judge_words net.now streams.now certificate.now)
 command_asked (asked.Replays net streams certificate script) = replays (replay_words net.now streams.now certificate.now script.now)
+command_asked (asked.Drills number) = drills number
 command_asked asked.Unknown = unknown
 
 -- the cause of each answer, by the command
@@ -58,6 +67,7 @@ CauseBy (lists name) s o = ListingCause s name o
 CauseBy (judges words) s o = AnswerCause (judging words) s o
 CauseBy (migrates words) s o = AnswerCause (judging words) s o
 CauseBy (replays words) s o = ReplayingCause words s o
+CauseBy (drills number) s o = DrillingCause number s o.sink_before o.sink_after
 CauseBy unknown s o = s ≡ status.Words
 
 abbrev pub CauseOf : Status → List (List ℕ) → Outside → Type 0
@@ -70,6 +80,7 @@ LeavesBy (lists name) s o = ListingLeaves s name o o.taken_before o.taken_after
 LeavesBy (judges words) s o = AnswerLeaves (judging words) Accepts AcceptsFront s o
 LeavesBy (migrates words) s o = AnswerLeaves (judging words) Migrates MigratesFront s o
 LeavesBy (replays words) s o = ReplayingLeaves words s o
+LeavesBy (drills number) s o = DrillingLeaves number s o.taken_before o.taken_after
 LeavesBy unknown s o = o.taken_after ≡ o.taken_before
 
 abbrev pub LeavesOf : Status → List (List ℕ) → Outside → Type 0

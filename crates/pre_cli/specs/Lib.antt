@@ -15,6 +15,8 @@ pub mod Judging
 pub mod Curves
 pub mod Headline
 pub mod Replaying
-pub mod Commands
 pub mod DueListings
 pub mod DueCertificates
+pub mod Sums
+pub mod Drilling
+pub mod Commands

@@ -4,7 +4,8 @@ ghost use Rattle.pre_base.specs.Told.{WhereTold};
 ghost use Rattle.pre_streams.specs.Fits.{Fits};
 ghost use Rattle.pre_certify.specs.Causes as causes;
 ghost use Rattle.pre_certify.specs.Refusals.{NoneRefuses};
-ghost use Rattle.pre_cli.specs.Certifying.{IsLeastRanked, pair_network, pair_streams, IsTextIn, OfFiles, IsGone, IsLong, InPlace, IsNetIn, NetRefused, AreStreamsIn, StreamsRefused, CertifiedCause, CertifiedLeaves, CertifyingCause, CertifyingLeaves};
+ghost use Rattle.pre_cli.specs.Certifying.{IsLeastRanked, CertifiedCause, CertifiedLeaves, CertifyingCause, CertifyingLeaves};
+ghost use Rattle.pre_cli.specs.Certifying.{pair_network, pair_streams, IsTextIn, OfFiles, IsGone, IsLong, InPlace, IsNetIn, NetRefused, AreStreamsIn, StreamsRefused};
 ghost use Rattle.pre_cli.specs.Certifying as certifying;
 
 use crate::listings::flushed;
@@ -42,7 +43,8 @@ pub(crate) fn file_text<H: Shelf>(
     shelf: &mut H,
 ) -> Result<Vec<u8>, Status>
     ensures text { IfOk result (λ text. WhereTold (H.tells shelf.old) (H.tells shelf.new) (OfFiles (certifying.IsFileIn word.now text.items))) }
-    ensures cause { IfErr result (λ s. InPlace s (certifying.IsNoFile word.now) (certifying.IsLongFile file word.now) (H.faults shelf.old) (H.faults shelf.new) (H.tells shelf.old) (H.tells shelf.new)) }
+    ensures cause { IfErr result (λ s. InPlace s (certifying.IsNoFile word.now) (certifying.IsLongFile file word.now)
+        (H.faults shelf.old) (H.faults shelf.new) (H.tells shelf.old) (H.tells shelf.new)) }
     ensures later { H.faults shelf.old ≤ H.faults shelf.new }
 {
     match read_whole(alloc, shelf, word) {
@@ -174,7 +176,7 @@ pub(crate) fn streams_named<H: Shelf>(
     }
 }
 
-fn unfit_status(cause: Unfit) -> Status
+pub(crate) fn unfit_status(cause: Unfit) -> Status
     ensures { result ≡ certifying.unfit_status cause }
 {
     match cause {
@@ -227,8 +229,28 @@ pub(crate) fn certify_files<H: Shelf, S: Sink>(
     shelf: &mut H,
     sink: &mut S,
 ) -> Status
-    ensures cause { CertifyingCause result net_word.now streams_word.now (record { shelf_before = H.faults shelf.old; shelf_after = H.faults shelf.new; sink_before = S.faults sink.old; sink_after = S.faults sink.new; told_before = H.tells shelf.old; told_after = H.tells shelf.new; taken_before = S.tells sink.old; taken_after = S.tells sink.new }) }
-    ensures leaves { CertifyingLeaves result net_word.now streams_word.now (record { shelf_before = H.faults shelf.old; shelf_after = H.faults shelf.new; sink_before = S.faults sink.old; sink_after = S.faults sink.new; told_before = H.tells shelf.old; told_after = H.tells shelf.new; taken_before = S.tells sink.old; taken_after = S.tells sink.new }) }
+    ensures cause { CertifyingCause result net_word.now streams_word.now
+        (record {
+          shelf_before = H.faults shelf.old;
+          shelf_after = H.faults shelf.new;
+          sink_before = S.faults sink.old;
+          sink_after = S.faults sink.new;
+          told_before = H.tells shelf.old;
+          told_after = H.tells shelf.new;
+          taken_before = S.tells sink.old;
+          taken_after = S.tells sink.new;
+        }) }
+    ensures leaves { CertifyingLeaves result net_word.now streams_word.now
+        (record {
+          shelf_before = H.faults shelf.old;
+          shelf_after = H.faults shelf.new;
+          sink_before = S.faults sink.old;
+          sink_after = S.faults sink.new;
+          told_before = H.tells shelf.old;
+          told_after = H.tells shelf.new;
+          taken_before = S.tells sink.old;
+          taken_after = S.tells sink.new;
+        }) }
     ensures shelf_later { H.faults shelf.old ≤ H.faults shelf.new }
     ensures sink_later { S.faults sink.old ≤ S.faults sink.new }
 {

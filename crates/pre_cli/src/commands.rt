@@ -1,5 +1,8 @@
 ghost use Rattle.std.specs.Prelude.{◌≡◌, map, string_bytes};
-ghost use Rattle.pre_cli.specs.Commands.{command_asked, command_of};
+ghost use Rattle.pre_text.specs.Words.{number_of};
+ghost use Rattle.pre_cli.specs.Commands.{command_asked, command_of, drilling};
+
+use pre_text::number;
 
 /// What the words ask for, with the words behind the command's name.
 pub(crate) enum Asked<'a> {
@@ -31,8 +34,25 @@ pub(crate) enum Asked<'a> {
         certificate: &'a str,
         script: &'a str,
     },
+    /// `drill N`, N a plain number up to 999,999,999
+    Drills {
+        number: u64,
+    },
     /// The words have none of these forms.
     Unknown,
+}
+
+/// The most that a drill's number may be.
+const MAX_DRILL: u64 = 999_999_999;
+
+/// What a drill's word asks for.
+fn drilling(word: &str) -> Asked<'static>
+    ensures { command_asked result ≡ drilling (number_of word.now) }
+{
+    match number(word.as_bytes()) {
+        Some(number) if number <= MAX_DRILL => Asked::Drills { number },
+        _ => Asked::Unknown,
+    }
 }
 
 /// What the words ask for.
@@ -41,6 +61,7 @@ pub(crate) fn command_of(words: &[String]) -> Asked<'_>
 {
     match words {
         [command, file] if command.as_str() == "mpackets" => Asked::Lists { file },
+        [command, word] if command.as_str() == "drill" => drilling(word),
         [command, net, streams] if command.as_str() == "certify" => {
             Asked::Certifies { net, streams }
         }

@@ -46,7 +46,8 @@ fn certificate_in<H: Shelf>(
     requires { Fits net.now streams.now }
     ensures rows { IfOk result (HasRows net.now streams.now.rows) }
     ensures certificate { IfOk result (λ c. WhereTold (H.tells shelf.old) (H.tells shelf.new) (OfFiles (IsCertificateIn name.now net.now streams.now c))) }
-    ensures cause { IfErr result (λ s. InPlace s (IsNoFile name.now) (CertificateRefused name.now net.now streams.now) (H.faults shelf.old) (H.faults shelf.new) (H.tells shelf.old) (H.tells shelf.new)) }
+    ensures cause { IfErr result (λ s. InPlace s (IsNoFile name.now) (CertificateRefused name.now net.now streams.now)
+        (H.faults shelf.old) (H.faults shelf.new) (H.tells shelf.old) (H.tells shelf.new)) }
     ensures later { H.faults shelf.old ≤ H.faults shelf.new }
 {
     match file_text(alloc, FileWord::Cert, name, shelf) {
@@ -131,8 +132,10 @@ pub(crate) fn judged_named<H: Shelf>(
 ) -> Result<Judged, Status>
     ensures fits { IfOk result (λ x. Fits x.net x.certified.streams) }
     ensures good { IfOk result (λ x. GoodCertificate x.net x.certified.streams x.certified.certificate) }
-    ensures judged { IfOk result (λ x. WhereTold (H.tells shelf.old) (H.tells shelf.new) (OfFiles ((judging (judge_words net_word.now streams_word.now certificate_word.now)).gives (x.net, (x.certified.streams, x.certified.certificate))))) }
-    ensures cause { IfErr result (λ s. Instead (judging (judge_words net_word.now streams_word.now certificate_word.now)) s (H.faults shelf.old) (H.faults shelf.new) (H.tells shelf.old) (H.tells shelf.new)) }
+    ensures judged { IfOk result (λ x. WhereTold (H.tells shelf.old) (H.tells shelf.new)
+        (OfFiles ((judging (judge_words net_word.now streams_word.now certificate_word.now)).gives (x.net, (x.certified.streams, x.certified.certificate))))) }
+    ensures cause { IfErr result (λ s. Instead (judging (judge_words net_word.now streams_word.now certificate_word.now)) s
+        (H.faults shelf.old) (H.faults shelf.new) (H.tells shelf.old) (H.tells shelf.new)) }
     ensures later { H.faults shelf.old ≤ H.faults shelf.new }
 {
     match network_named(alloc, net_word, shelf) {
@@ -181,8 +184,28 @@ pub(crate) fn judge_files<H: Shelf, S: Sink>(
     shelf: &mut H,
     sink: &mut S,
 ) -> Status
-    ensures cause { AnswerCause (judging (judge_words net_word.now streams_word.now certificate_word.now)) result (record { shelf_before = H.faults shelf.old; shelf_after = H.faults shelf.new; sink_before = S.faults sink.old; sink_after = S.faults sink.new; told_before = H.tells shelf.old; told_after = H.tells shelf.new; taken_before = S.tells sink.old; taken_after = S.tells sink.new }) }
-    ensures leaves { AnswerLeaves (judging (judge_words net_word.now streams_word.now certificate_word.now)) Accepts AcceptsFront result (record { shelf_before = H.faults shelf.old; shelf_after = H.faults shelf.new; sink_before = S.faults sink.old; sink_after = S.faults sink.new; told_before = H.tells shelf.old; told_after = H.tells shelf.new; taken_before = S.tells sink.old; taken_after = S.tells sink.new }) }
+    ensures cause { AnswerCause (judging (judge_words net_word.now streams_word.now certificate_word.now)) result
+        (record {
+          shelf_before = H.faults shelf.old;
+          shelf_after = H.faults shelf.new;
+          sink_before = S.faults sink.old;
+          sink_after = S.faults sink.new;
+          told_before = H.tells shelf.old;
+          told_after = H.tells shelf.new;
+          taken_before = S.tells sink.old;
+          taken_after = S.tells sink.new;
+        }) }
+    ensures leaves { AnswerLeaves (judging (judge_words net_word.now streams_word.now certificate_word.now)) Accepts AcceptsFront result
+        (record {
+          shelf_before = H.faults shelf.old;
+          shelf_after = H.faults shelf.new;
+          sink_before = S.faults sink.old;
+          sink_after = S.faults sink.new;
+          told_before = H.tells shelf.old;
+          told_after = H.tells shelf.new;
+          taken_before = S.tells sink.old;
+          taken_after = S.tells sink.new;
+        }) }
     ensures shelf_later { H.faults shelf.old ≤ H.faults shelf.new }
     ensures sink_later { S.faults sink.old ≤ S.faults sink.new }
 {
@@ -201,8 +224,28 @@ pub(crate) fn migrate_files<H: Shelf, S: Sink>(
     shelf: &mut H,
     sink: &mut S,
 ) -> Status
-    ensures cause { AnswerCause (judging (judge_words net_word.now streams_word.now certificate_word.now)) result (record { shelf_before = H.faults shelf.old; shelf_after = H.faults shelf.new; sink_before = S.faults sink.old; sink_after = S.faults sink.new; told_before = H.tells shelf.old; told_after = H.tells shelf.new; taken_before = S.tells sink.old; taken_after = S.tells sink.new }) }
-    ensures leaves { AnswerLeaves (judging (judge_words net_word.now streams_word.now certificate_word.now)) Migrates MigratesFront result (record { shelf_before = H.faults shelf.old; shelf_after = H.faults shelf.new; sink_before = S.faults sink.old; sink_after = S.faults sink.new; told_before = H.tells shelf.old; told_after = H.tells shelf.new; taken_before = S.tells sink.old; taken_after = S.tells sink.new }) }
+    ensures cause { AnswerCause (judging (judge_words net_word.now streams_word.now certificate_word.now)) result
+        (record {
+          shelf_before = H.faults shelf.old;
+          shelf_after = H.faults shelf.new;
+          sink_before = S.faults sink.old;
+          sink_after = S.faults sink.new;
+          told_before = H.tells shelf.old;
+          told_after = H.tells shelf.new;
+          taken_before = S.tells sink.old;
+          taken_after = S.tells sink.new;
+        }) }
+    ensures leaves { AnswerLeaves (judging (judge_words net_word.now streams_word.now certificate_word.now)) Migrates MigratesFront result
+        (record {
+          shelf_before = H.faults shelf.old;
+          shelf_after = H.faults shelf.new;
+          sink_before = S.faults sink.old;
+          sink_after = S.faults sink.new;
+          told_before = H.tells shelf.old;
+          told_after = H.tells shelf.new;
+          taken_before = S.tells sink.old;
+          taken_after = S.tells sink.new;
+        }) }
     ensures shelf_later { H.faults shelf.old ≤ H.faults shelf.new }
     ensures sink_later { S.faults sink.old ≤ S.faults sink.new }
 {

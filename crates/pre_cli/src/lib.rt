@@ -5,6 +5,8 @@ mod certifying;
 mod certifying_laws;
 mod commands;
 mod curves;
+mod drilling;
+mod drilling_laws;
 mod judging;
 mod judging_laws;
 mod laws;
@@ -17,6 +19,7 @@ mod replays;
 mod statuses;
 
 pub use certifying_laws::due_certificates;
+pub use drilling_laws::due_drills;
 pub use judging_laws::due_verdicts;
 pub use laws::{due_answers, headline, one_trace};
 pub use listing_laws::due_listings;

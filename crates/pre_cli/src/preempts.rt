@@ -4,6 +4,7 @@ ghost use Rattle.pre_cli.specs.Commands.{CauseOf, LeavesOf};
 use crate::Status;
 use crate::certifying::certify_files;
 use crate::commands::{Asked, command_of};
+use crate::drilling::drill;
 use crate::judging::{judge_files, migrate_files};
 use crate::listings::list_file;
 use crate::replays::replay_files;
@@ -13,9 +14,10 @@ use std::alloc::Global;
 /// Does the command that the words say, over the shelf's files, and writes what it gives to the sink. `certify NET STREAMS`
 /// writes the least certificate of the streams over the network; `judge NET STREAMS CERT` writes `accepted` where the
 /// certificate is good for them, and `migrate NET STREAMS CERT` writes it anew; `replay NET STREAMS CERT SCRIPT` runs the
-/// script over these, where the certificate is good and the sends keep to their curves, and writes the trace; and
-/// `mpackets FILE` writes a line for each mPacket of the file, with what it gives to one receiver. In the place of NET or
-/// STREAMS the word `pair` stands for a built-in text.
+/// script over these, where the certificate is good and the sends keep to their curves, and writes the trace; `mpackets FILE`
+/// writes a line for each mPacket of the file, with what it gives to one receiver; and `drill N` makes the large plant of
+/// the number N, certifies it, runs its script and writes the summary of the run. In the place of NET or STREAMS the word
+/// `pair` stands for a built-in text.
 ///
 /// Each answer has its cause, and no two causes hold together; only want of memory is free. Files are read and tested one
 /// by one, in the order of the words, before anything is written. Where the answer is Done, the sink took the whole of the
@@ -31,8 +33,28 @@ pub fn preempt<H: Shelf, S: Sink>(
     shelf: &mut H,
     sink: &mut S,
 ) -> Status
-    ensures cause { CauseOf result (map string_bytes words.now) (record { shelf_before = H.faults shelf.old; shelf_after = H.faults shelf.new; sink_before = S.faults sink.old; sink_after = S.faults sink.new; told_before = H.tells shelf.old; told_after = H.tells shelf.new; taken_before = S.tells sink.old; taken_after = S.tells sink.new }) }
-    ensures leaves { LeavesOf result (map string_bytes words.now) (record { shelf_before = H.faults shelf.old; shelf_after = H.faults shelf.new; sink_before = S.faults sink.old; sink_after = S.faults sink.new; told_before = H.tells shelf.old; told_after = H.tells shelf.new; taken_before = S.tells sink.old; taken_after = S.tells sink.new }) }
+    ensures cause { CauseOf result (map string_bytes words.now)
+        (record {
+          shelf_before = H.faults shelf.old;
+          shelf_after = H.faults shelf.new;
+          sink_before = S.faults sink.old;
+          sink_after = S.faults sink.new;
+          told_before = H.tells shelf.old;
+          told_after = H.tells shelf.new;
+          taken_before = S.tells sink.old;
+          taken_after = S.tells sink.new;
+        }) }
+    ensures leaves { LeavesOf result (map string_bytes words.now)
+        (record {
+          shelf_before = H.faults shelf.old;
+          shelf_after = H.faults shelf.new;
+          sink_before = S.faults sink.old;
+          sink_after = S.faults sink.new;
+          told_before = H.tells shelf.old;
+          told_after = H.tells shelf.new;
+          taken_before = S.tells sink.old;
+          taken_after = S.tells sink.new;
+        }) }
     ensures shelf_later { H.faults shelf.old ≤ H.faults shelf.new }
     ensures sink_later { S.faults sink.old ≤ S.faults sink.new }
 {
@@ -55,6 +77,7 @@ pub fn preempt<H: Shelf, S: Sink>(
             certificate,
             script,
         } => replay_files(alloc, net, streams, certificate, script, shelf, sink),
+        Asked::Drills { number } => drill(alloc, number, sink),
         Asked::Unknown => Status::Words,
     }
 }

@@ -29,7 +29,7 @@ use pre_trace::{TraceWatcher, Watcher};
 use std::alloc::{AllocError, Global};
 
 /// Does all the steps of a run: the last one's answer.
-fn run_on<W: Watcher>(sim: &mut Sim, watcher: &mut W) -> Step
+pub(crate) fn run_on<W: Watcher>(sim: &mut Sim, watcher: &mut W) -> Step
     requires { sim.old.going ≡ true }
     ensures last { result ≢ Step.More }
     ensures told { StepTells sim.old result sim.new (W.took watcher.old) (W.took watcher.new) (W.torn watcher.new) }
@@ -152,8 +152,10 @@ fn scripted_named<H: Shelf>(
     ensures can { IfOk result (λ x. AllFit x.judged.net x.judged.certified.streams x.script) }
     ensures good { IfOk result (λ x. GoodCertificate x.judged.net x.judged.certified.streams x.judged.certified.certificate) }
     ensures rise { IfOk result (λ x. LinesRise x.script.sends) }
-    ensures scripted { IfOk result (λ x. WhereTold (H.tells shelf.old) (H.tells shelf.new) (OfFiles ((scripted_in (replay_words net_word.now streams_word.now certificate_word.now script_word.now)).gives ((x.judged.net, (x.judged.certified.streams, x.judged.certified.certificate)), x.script)))) }
-    ensures cause { IfErr result (λ s. Instead (scripted_in (replay_words net_word.now streams_word.now certificate_word.now script_word.now)) s (H.faults shelf.old) (H.faults shelf.new) (H.tells shelf.old) (H.tells shelf.new)) }
+    ensures scripted { IfOk result (λ x. WhereTold (H.tells shelf.old) (H.tells shelf.new)
+        (OfFiles ((scripted_in (replay_words net_word.now streams_word.now certificate_word.now script_word.now)).gives ((x.judged.net, (x.judged.certified.streams, x.judged.certified.certificate)), x.script)))) }
+    ensures cause { IfErr result (λ s. Instead (scripted_in (replay_words net_word.now streams_word.now certificate_word.now script_word.now)) s
+        (H.faults shelf.old) (H.faults shelf.new) (H.tells shelf.old) (H.tells shelf.new)) }
     ensures later { H.faults shelf.old ≤ H.faults shelf.new }
 {
     match judged_named(alloc, net_word, streams_word, certificate_word, shelf) {
@@ -183,8 +185,10 @@ fn input_named<H: Shelf>(
     ensures can { IfOk result (λ x. AllFit x.judged.net x.judged.certified.streams x.script) }
     ensures good { IfOk result (λ x. GoodCertificate x.judged.net x.judged.certified.streams x.judged.certified.certificate) }
     ensures curves { IfOk result (λ x. CurvesHold x.judged.certified.streams.rows x.script.sends) }
-    ensures input { IfOk result (λ x. WhereTold (H.tells shelf.old) (H.tells shelf.new) (OfFiles ((replaying (replay_words net_word.now streams_word.now certificate_word.now script_word.now)).gives ((x.judged.net, (x.judged.certified.streams, x.judged.certified.certificate)), x.script)))) }
-    ensures cause { IfErr result (λ s. Instead (replaying (replay_words net_word.now streams_word.now certificate_word.now script_word.now)) s (H.faults shelf.old) (H.faults shelf.new) (H.tells shelf.old) (H.tells shelf.new)) }
+    ensures input { IfOk result (λ x. WhereTold (H.tells shelf.old) (H.tells shelf.new)
+        (OfFiles ((replaying (replay_words net_word.now streams_word.now certificate_word.now script_word.now)).gives ((x.judged.net, (x.judged.certified.streams, x.judged.certified.certificate)), x.script)))) }
+    ensures cause { IfErr result (λ s. Instead (replaying (replay_words net_word.now streams_word.now certificate_word.now script_word.now)) s
+        (H.faults shelf.old) (H.faults shelf.new) (H.tells shelf.old) (H.tells shelf.new)) }
     ensures later { H.faults shelf.old ≤ H.faults shelf.new }
 {
     match scripted_named(
@@ -208,7 +212,7 @@ fn input_named<H: Shelf>(
 }
 
 /// A script that keeps to the curves is a run, for which a good certificate keeps its word.
-fn makes_a_run(net: &Network, streams: &Streams, script: &Script)
+pub(crate) fn makes_a_run(net: &Network, streams: &Streams, script: &Script)
     requires fits { rows.Fits net.now streams.now }
     requires lines { lines.Fits net.now streams.now script.now }
     requires curves { CurvesHold streams.now.rows script.now.sends }
@@ -229,8 +233,28 @@ pub(crate) fn replay_files<H: Shelf, S: Sink>(
     shelf: &mut H,
     sink: &mut S,
 ) -> Status
-    ensures cause { ReplayingCause (replay_words net_word.now streams_word.now certificate_word.now script_word.now) result (record { shelf_before = H.faults shelf.old; shelf_after = H.faults shelf.new; sink_before = S.faults sink.old; sink_after = S.faults sink.new; told_before = H.tells shelf.old; told_after = H.tells shelf.new; taken_before = S.tells sink.old; taken_after = S.tells sink.new }) }
-    ensures leaves { ReplayingLeaves (replay_words net_word.now streams_word.now certificate_word.now script_word.now) result (record { shelf_before = H.faults shelf.old; shelf_after = H.faults shelf.new; sink_before = S.faults sink.old; sink_after = S.faults sink.new; told_before = H.tells shelf.old; told_after = H.tells shelf.new; taken_before = S.tells sink.old; taken_after = S.tells sink.new }) }
+    ensures cause { ReplayingCause (replay_words net_word.now streams_word.now certificate_word.now script_word.now) result
+        (record {
+          shelf_before = H.faults shelf.old;
+          shelf_after = H.faults shelf.new;
+          sink_before = S.faults sink.old;
+          sink_after = S.faults sink.new;
+          told_before = H.tells shelf.old;
+          told_after = H.tells shelf.new;
+          taken_before = S.tells sink.old;
+          taken_after = S.tells sink.new;
+        }) }
+    ensures leaves { ReplayingLeaves (replay_words net_word.now streams_word.now certificate_word.now script_word.now) result
+        (record {
+          shelf_before = H.faults shelf.old;
+          shelf_after = H.faults shelf.new;
+          sink_before = S.faults sink.old;
+          sink_after = S.faults sink.new;
+          told_before = H.tells shelf.old;
+          told_after = H.tells shelf.new;
+          taken_before = S.tells sink.old;
+          taken_after = S.tells sink.new;
+        }) }
     ensures shelf_later { H.faults shelf.old ≤ H.faults shelf.new }
     ensures sink_later { S.faults sink.old ≤ S.faults sink.new }
 {

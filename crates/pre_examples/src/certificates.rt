@@ -88,20 +88,117 @@ pub fn short_before(alloc: Global, max: u16) -> Result<String, AllocError> {
 }
 
 /// Streams that want all of an arc's time.
-const FULL: &str =
-    "[[stream]]\nname = \"x\"\nvid = 1\nprio = 6\nroute = [\"a\", \"b\"]\nmax = 64\nburst = 84\nrate = 600000\n[[stream]]\nname = \"z\"\nvid = 2\nprio = 6\nroute = [\"a\", \"b\"]\nmax = 64\nburst = 84\nrate = 400000\n";
+const FULL: &str = r#"[[stream]]
+name = "x"
+vid = 1
+prio = 6
+route = ["a", "b"]
+max = 64
+burst = 84
+rate = 600000
+[[stream]]
+name = "z"
+vid = 2
+prio = 6
+route = ["a", "b"]
+max = 64
+burst = 84
+rate = 400000
+"#;
 
 /// Three bridges in a ring, with a station at each.
-pub const RING: &str =
-    "express_from = 4\n[[node]]\nname = \"p\"\nkind = \"bridge\"\n[[node]]\nname = \"q\"\nkind = \"bridge\"\n[[node]]\nname = \"r\"\nkind = \"bridge\"\n[[node]]\nname = \"s\"\nkind = \"station\"\n[[node]]\nname = \"t\"\nkind = \"station\"\n[[node]]\nname = \"u\"\nkind = \"station\"\n[[link]]\nends = [\"p\", \"q\"]\ncost = 1\nmode = \"on\"\nrings = [64, 64, 64, 64, 64, 64, 64, 64]\n[[link]]\nends = [\"q\", \"r\"]\ncost = 1\nmode = \"on\"\nrings = [64, 64, 64, 64, 64, 64, 64, 64]\n[[link]]\nends = [\"r\", \"p\"]\ncost = 1\nmode = \"on\"\nrings = [64, 64, 64, 64, 64, 64, 64, 64]\n[[link]]\nends = [\"s\", \"p\"]\ncost = 1\nmode = \"on\"\nrings = [64, 64, 64, 64, 64, 64, 64, 64]\n[[link]]\nends = [\"t\", \"q\"]\ncost = 1\nmode = \"on\"\nrings = [64, 64, 64, 64, 64, 64, 64, 64]\n[[link]]\nends = [\"u\", \"r\"]\ncost = 1\nmode = \"on\"\nrings = [64, 64, 64, 64, 64, 64, 64, 64]\n";
+pub const RING: &str = r#"express_from = 4
+[[node]]
+name = "p"
+kind = "bridge"
+[[node]]
+name = "q"
+kind = "bridge"
+[[node]]
+name = "r"
+kind = "bridge"
+[[node]]
+name = "s"
+kind = "station"
+[[node]]
+name = "t"
+kind = "station"
+[[node]]
+name = "u"
+kind = "station"
+[[link]]
+ends = ["p", "q"]
+cost = 1
+mode = "on"
+rings = [64, 64, 64, 64, 64, 64, 64, 64]
+[[link]]
+ends = ["q", "r"]
+cost = 1
+mode = "on"
+rings = [64, 64, 64, 64, 64, 64, 64, 64]
+[[link]]
+ends = ["r", "p"]
+cost = 1
+mode = "on"
+rings = [64, 64, 64, 64, 64, 64, 64, 64]
+[[link]]
+ends = ["s", "p"]
+cost = 1
+mode = "on"
+rings = [64, 64, 64, 64, 64, 64, 64, 64]
+[[link]]
+ends = ["t", "q"]
+cost = 1
+mode = "on"
+rings = [64, 64, 64, 64, 64, 64, 64, 64]
+[[link]]
+ends = ["u", "r"]
+cost = 1
+mode = "on"
+rings = [64, 64, 64, 64, 64, 64, 64, 64]
+"#;
 
 /// Streams that go round, each by the arcs between three bridges and those to and from stations.
-pub const ROUND: &str =
-    "[[stream]]\nname = \"c1\"\nvid = 1\nprio = 6\nroute = [\"s\", \"p\", \"q\", \"r\", \"u\"]\nmax = 64\nburst = 84\nrate = 1000\n[[stream]]\nname = \"c2\"\nvid = 2\nprio = 6\nroute = [\"t\", \"q\", \"r\", \"p\", \"s\"]\nmax = 64\nburst = 84\nrate = 1000\n[[stream]]\nname = \"c3\"\nvid = 3\nprio = 6\nroute = [\"u\", \"r\", \"p\", \"q\", \"t\"]\nmax = 64\nburst = 84\nrate = 1000\n";
+pub const ROUND: &str = r#"[[stream]]
+name = "c1"
+vid = 1
+prio = 6
+route = ["s", "p", "q", "r", "u"]
+max = 64
+burst = 84
+rate = 1000
+[[stream]]
+name = "c2"
+vid = 2
+prio = 6
+route = ["t", "q", "r", "p", "s"]
+max = 64
+burst = 84
+rate = 1000
+[[stream]]
+name = "c3"
+vid = 3
+prio = 6
+route = ["u", "r", "p", "q", "t"]
+max = 64
+burst = 84
+rate = 1000
+"#;
 
 /// Two stations and a link on which an octet takes 1000 ticks.
-const SLOW: &str =
-    "express_from = 4\n[[node]]\nname = \"a\"\nkind = \"station\"\n[[node]]\nname = \"b\"\nkind = \"station\"\n[[link]]\nends = [\"a\", \"b\"]\ncost = 1000\nmode = \"on\"\nrings = [64, 64, 64, 64, 64, 64, 64, 64]\n";
+const SLOW: &str = r#"express_from = 4
+[[node]]
+name = "a"
+kind = "station"
+[[node]]
+name = "b"
+kind = "station"
+[[link]]
+ends = ["a", "b"]
+cost = 1000
+mode = "on"
+rings = [64, 64, 64, 64, 64, 64, 64, 64]
+"#;
 
 /// A stream of the greatest burst.
 const GREATEST: &str =

@@ -8,32 +8,140 @@ use std::process::Abort;
 use std::test::Fail;
 
 /// Two stations and a link that preempts.
-pub const DIRECT: &str =
-    "express_from = 4\n[[node]]\nname = \"a\"\nkind = \"station\"\n[[node]]\nname = \"b\"\nkind = \"station\"\n[[link]]\nends = [\"a\", \"b\"]\ncost = 1\nmode = \"on\"\nrings = [64, 64, 64, 64, 64, 64, 64, 64]\n";
+pub const DIRECT: &str = r#"express_from = 4
+[[node]]
+name = "a"
+kind = "station"
+[[node]]
+name = "b"
+kind = "station"
+[[link]]
+ends = ["a", "b"]
+cost = 1
+mode = "on"
+rings = [64, 64, 64, 64, 64, 64, 64, 64]
+"#;
 
 /// The same link, which negotiates.
-const NEGOTIATED: &str =
-    "express_from = 4\ntiming = {interval = 100000, ttl = 4, unit = 100000, verify = 1000}\n[[node]]\nname = \"a\"\nkind = \"station\"\n[[node]]\nname = \"b\"\nkind = \"station\"\n[[link]]\nends = [\"a\", \"b\"]\ncost = 1\nmode = \"negotiate\"\nrings = [64, 64, 64, 64, 64, 64, 64, 64]\n";
+const NEGOTIATED: &str = r#"express_from = 4
+timing = {interval = 100000, ttl = 4, unit = 100000, verify = 1000}
+[[node]]
+name = "a"
+kind = "station"
+[[node]]
+name = "b"
+kind = "station"
+[[link]]
+ends = ["a", "b"]
+cost = 1
+mode = "negotiate"
+rings = [64, 64, 64, 64, 64, 64, 64, 64]
+"#;
 
 /// Two stations and a bridge between them.
-pub const BRIDGED: &str =
-    "express_from = 4\n[[node]]\nname = \"a\"\nkind = \"station\"\n[[node]]\nname = \"m\"\nkind = \"bridge\"\nlatency = 100\n[[node]]\nname = \"b\"\nkind = \"station\"\n[[link]]\nends = [\"a\", \"m\"]\ncost = 1\nmode = \"on\"\nrings = [64, 64, 64, 64, 64, 64, 64, 64]\n[[link]]\nends = [\"m\", \"b\"]\ncost = 1\nmode = \"on\"\nrings = [64, 64, 64, 64, 64, 64, 64, 64]\n";
+pub const BRIDGED: &str = r#"express_from = 4
+[[node]]
+name = "a"
+kind = "station"
+[[node]]
+name = "m"
+kind = "bridge"
+latency = 100
+[[node]]
+name = "b"
+kind = "station"
+[[link]]
+ends = ["a", "m"]
+cost = 1
+mode = "on"
+rings = [64, 64, 64, 64, 64, 64, 64, 64]
+[[link]]
+ends = ["m", "b"]
+cost = 1
+mode = "on"
+rings = [64, 64, 64, 64, 64, 64, 64, 64]
+"#;
 
 /// Two stations, and rings of one frame each.
-pub const NARROW: &str =
-    "express_from = 4\n[[node]]\nname = \"a\"\nkind = \"station\"\n[[node]]\nname = \"b\"\nkind = \"station\"\n[[link]]\nends = [\"a\", \"b\"]\ncost = 1\nmode = \"on\"\nrings = [1, 1, 1, 1, 1, 1, 1, 1]\n";
+pub const NARROW: &str = r#"express_from = 4
+[[node]]
+name = "a"
+kind = "station"
+[[node]]
+name = "b"
+kind = "station"
+[[link]]
+ends = ["a", "b"]
+cost = 1
+mode = "on"
+rings = [1, 1, 1, 1, 1, 1, 1, 1]
+"#;
 
 /// Two stations and a link over which frames of up to 2000 octets go whole.
-pub const WHOLE_FRAMES: &str =
-    "express_from = 4\n[[node]]\nname = \"a\"\nkind = \"station\"\n[[node]]\nname = \"b\"\nkind = \"station\"\n[[link]]\nends = [\"a\", \"b\"]\ncost = 1\nmode = \"off\"\nrings = [64, 64, 64, 64, 64, 64, 64, 64]\nlargest = 2000\n";
+pub const WHOLE_FRAMES: &str = r#"express_from = 4
+[[node]]
+name = "a"
+kind = "station"
+[[node]]
+name = "b"
+kind = "station"
+[[link]]
+ends = ["a", "b"]
+cost = 1
+mode = "off"
+rings = [64, 64, 64, 64, 64, 64, 64, 64]
+largest = 2000
+"#;
 
 /// Two stations and a link that preempts, whose preemptable frames have 100 octets at most.
-pub const SHORT_FRAMES: &str =
-    "express_from = 4\n[[node]]\nname = \"a\"\nkind = \"station\"\n[[node]]\nname = \"b\"\nkind = \"station\"\n[[link]]\nends = [\"a\", \"b\"]\ncost = 1\nmode = \"on\"\nrings = [64, 64, 64, 64, 64, 64, 64, 64]\nlargest = 100\n";
+pub const SHORT_FRAMES: &str = r#"express_from = 4
+[[node]]
+name = "a"
+kind = "station"
+[[node]]
+name = "b"
+kind = "station"
+[[link]]
+ends = ["a", "b"]
+cost = 1
+mode = "on"
+rings = [64, 64, 64, 64, 64, 64, 64, 64]
+largest = 100
+"#;
 
 /// A bridge between three stations. Priorities are express from 4 on over the first link, and from 6 on over the others.
-pub const AREAS: &str =
-    "express_from = 4\n[[node]]\nname = \"a\"\nkind = \"station\"\n[[node]]\nname = \"m\"\nkind = \"bridge\"\nlatency = 100\n[[node]]\nname = \"b\"\nkind = \"station\"\n[[node]]\nname = \"c\"\nkind = \"station\"\n[[link]]\nends = [\"a\", \"m\"]\ncost = 1\nmode = \"on\"\nrings = [64, 64, 64, 64, 64, 64, 64, 64]\n[[link]]\nends = [\"m\", \"b\"]\ncost = 1\nmode = \"on\"\nrings = [64, 64, 64, 64, 64, 64, 64, 64]\nexpress_from = 6\n[[link]]\nends = [\"c\", \"m\"]\ncost = 1\nmode = \"on\"\nrings = [64, 64, 64, 64, 64, 64, 64, 64]\nexpress_from = 6\n";
+pub const AREAS: &str = r#"express_from = 4
+[[node]]
+name = "a"
+kind = "station"
+[[node]]
+name = "m"
+kind = "bridge"
+latency = 100
+[[node]]
+name = "b"
+kind = "station"
+[[node]]
+name = "c"
+kind = "station"
+[[link]]
+ends = ["a", "m"]
+cost = 1
+mode = "on"
+rings = [64, 64, 64, 64, 64, 64, 64, 64]
+[[link]]
+ends = ["m", "b"]
+cost = 1
+mode = "on"
+rings = [64, 64, 64, 64, 64, 64, 64, 64]
+express_from = 6
+[[link]]
+ends = ["c", "m"]
+cost = 1
+mode = "on"
+rings = [64, 64, 64, 64, 64, 64, 64, 64]
+express_from = 6
+"#;
 
 const STATIONS: &str =
     "node = [{name = \"a\", kind = \"station\"}, {name = \"b\", kind = \"station\"}]\n";

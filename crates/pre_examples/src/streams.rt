@@ -12,16 +12,63 @@ pub const TWO_ROWS: &str =
     "[[stream]]\nname = \"x\"\nvid = 10\nprio = 6\nroute = [\"a\", \"b\"]\nmax = 1522\nburst = 2000\nrate = 100000\n[[flow]]\nname = \"y\"\nvid = 20\nprio = 0\nroute = [\"a\", \"b\"]\nmax = 1522\n";
 
 /// The same rows by way of the bridge, with a stream of short frames.
-pub const BY_BRIDGE: &str =
-    "[[stream]]\nname = \"x\"\nvid = 10\nprio = 6\nroute = [\"a\", \"m\", \"b\"]\nmax = 64\nburst = 84\nrate = 1000\n[[flow]]\nname = \"y\"\nvid = 20\nprio = 0\nroute = [\"a\", \"m\", \"b\"]\nmax = 1522\n";
+pub const BY_BRIDGE: &str = r#"[[stream]]
+name = "x"
+vid = 10
+prio = 6
+route = ["a", "m", "b"]
+max = 64
+burst = 84
+rate = 1000
+[[flow]]
+name = "y"
+vid = 20
+prio = 0
+route = ["a", "m", "b"]
+max = 1522
+"#;
 
 /// Two streams and a flow.
-pub const THREE_ROWS: &str =
-    "[[stream]]\nname = \"x\"\nvid = 10\nprio = 6\nroute = [\"a\", \"b\"]\nmax = 64\nburst = 84\nrate = 1000\n[[stream]]\nname = \"z\"\nvid = 11\nprio = 7\nroute = [\"a\", \"b\"]\nmax = 500\nburst = 520\nrate = 10000\n[[flow]]\nname = \"y\"\nvid = 20\nprio = 0\nroute = [\"a\", \"b\"]\nmax = 1522\n";
+pub const THREE_ROWS: &str = r#"[[stream]]
+name = "x"
+vid = 10
+prio = 6
+route = ["a", "b"]
+max = 64
+burst = 84
+rate = 1000
+[[stream]]
+name = "z"
+vid = 11
+prio = 7
+route = ["a", "b"]
+max = 500
+burst = 520
+rate = 10000
+[[flow]]
+name = "y"
+vid = 20
+prio = 0
+route = ["a", "b"]
+max = 1522
+"#;
 
 /// A stream that changes areas, and a flow that joins it in the second one.
-pub const ACROSS_AREAS: &str =
-    "[[stream]]\nname = \"x\"\nvid = 10\nprio = 6\nroute = [\"a\", \"m\", \"b\"]\nmax = 64\nburst = 84\nrate = 1000\n[[flow]]\nname = \"y\"\nvid = 20\nprio = 5\nroute = [\"c\", \"m\", \"b\"]\nmax = 1522\n";
+pub const ACROSS_AREAS: &str = r#"[[stream]]
+name = "x"
+vid = 10
+prio = 6
+route = ["a", "m", "b"]
+max = 64
+burst = 84
+rate = 1000
+[[flow]]
+name = "y"
+vid = 20
+prio = 5
+route = ["c", "m", "b"]
+max = 1522
+"#;
 
 fn read(alloc: Global, net: &str, text: &str) -> Result<Result<Streams, StreamFault>, Fail> {
     let net = read_network(alloc, net.as_bytes())?;

@@ -62,8 +62,20 @@ hop c3 3 87
 ";
 
 /// Two stations and a link that preempts, over which preemptable frames have up to 1600 octets.
-const LONGER_FRAMES: &str =
-    "express_from = 4\n[[node]]\nname = \"a\"\nkind = \"station\"\n[[node]]\nname = \"b\"\nkind = \"station\"\n[[link]]\nends = [\"a\", \"b\"]\ncost = 1\nmode = \"on\"\nrings = [64, 64, 64, 64, 64, 64, 64, 64]\nlargest = 1600\n";
+const LONGER_FRAMES: &str = r#"express_from = 4
+[[node]]
+name = "a"
+kind = "station"
+[[node]]
+name = "b"
+kind = "station"
+[[link]]
+ends = ["a", "b"]
+cost = 1
+mode = "on"
+rings = [64, 64, 64, 64, 64, 64, 64, 64]
+largest = 1600
+"#;
 
 /// Does a command over three files, `net`, `streams` and `cert`.
 fn done_over<S: Sink>(

@@ -44,6 +44,11 @@ fn wrong_words(rt: HostRuntime) -> Result<(), Fail> {
         "certify pair",
         "judge pair pair",
         "migrate pair pair cert script",
+        "drill",
+        "drill 1 2",
+        "drill 01",
+        "drill x",
+        "drill 1000000000",
     ] {
         let mut shelf = shelf_with(alloc, EXAMPLE.as_bytes())?;
         let mut sink = wide_sink(alloc)?;

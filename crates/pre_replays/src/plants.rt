@@ -1,28 +1,105 @@
 //! Networks and streams that the examples run over.
 
 /// Two stations and a link of which neither direction preempts.
-pub const OFF: &str =
-    "express_from = 4\n[[node]]\nname = \"a\"\nkind = \"station\"\n[[node]]\nname = \"b\"\nkind = \"station\"\n[[link]]\nends = [\"a\", \"b\"]\ncost = 1\nmode = \"off\"\nrings = [64, 64, 64, 64, 64, 64, 64, 64]\n";
+pub const OFF: &str = r#"express_from = 4
+[[node]]
+name = "a"
+kind = "station"
+[[node]]
+name = "b"
+kind = "station"
+[[link]]
+ends = ["a", "b"]
+cost = 1
+mode = "off"
+rings = [64, 64, 64, 64, 64, 64, 64, 64]
+"#;
 
 /// The same, for preemptable frames of up to 2000 octets.
-pub const WIDE_OFF: &str =
-    "express_from = 4\n[[node]]\nname = \"a\"\nkind = \"station\"\n[[node]]\nname = \"b\"\nkind = \"station\"\n[[link]]\nends = [\"a\", \"b\"]\ncost = 1\nmode = \"off\"\nrings = [64, 64, 64, 64, 64, 64, 64, 64]\nlargest = 2000\n";
+pub const WIDE_OFF: &str = r#"express_from = 4
+[[node]]
+name = "a"
+kind = "station"
+[[node]]
+name = "b"
+kind = "station"
+[[link]]
+ends = ["a", "b"]
+cost = 1
+mode = "off"
+rings = [64, 64, 64, 64, 64, 64, 64, 64]
+largest = 2000
+"#;
 
 /// Two stations, and rings of one frame each.
-pub const NARROW: &str =
-    "express_from = 4\n[[node]]\nname = \"a\"\nkind = \"station\"\n[[node]]\nname = \"b\"\nkind = \"station\"\n[[link]]\nends = [\"a\", \"b\"]\ncost = 1\nmode = \"on\"\nrings = [1, 1, 1, 1, 1, 1, 1, 1]\n";
+pub const NARROW: &str = r#"express_from = 4
+[[node]]
+name = "a"
+kind = "station"
+[[node]]
+name = "b"
+kind = "station"
+[[link]]
+ends = ["a", "b"]
+cost = 1
+mode = "on"
+rings = [1, 1, 1, 1, 1, 1, 1, 1]
+"#;
 
 /// The same over a link that doesn't preempt.
-pub const NARROW_OFF: &str =
-    "express_from = 4\n[[node]]\nname = \"a\"\nkind = \"station\"\n[[node]]\nname = \"b\"\nkind = \"station\"\n[[link]]\nends = [\"a\", \"b\"]\ncost = 1\nmode = \"off\"\nrings = [1, 1, 1, 1, 1, 1, 1, 1]\n";
+pub const NARROW_OFF: &str = r#"express_from = 4
+[[node]]
+name = "a"
+kind = "station"
+[[node]]
+name = "b"
+kind = "station"
+[[link]]
+ends = ["a", "b"]
+cost = 1
+mode = "off"
+rings = [1, 1, 1, 1, 1, 1, 1, 1]
+"#;
 
 /// The same, with a wire that takes 6000 ticks.
-pub const FAR: &str =
-    "express_from = 4\n[[node]]\nname = \"a\"\nkind = \"station\"\n[[node]]\nname = \"b\"\nkind = \"station\"\n[[link]]\nends = [\"a\", \"b\"]\ncost = 1\ndelay = 6000\nmode = \"off\"\nrings = [1, 1, 1, 1, 1, 1, 1, 1]\n";
+pub const FAR: &str = r#"express_from = 4
+[[node]]
+name = "a"
+kind = "station"
+[[node]]
+name = "b"
+kind = "station"
+[[link]]
+ends = ["a", "b"]
+cost = 1
+delay = 6000
+mode = "off"
+rings = [1, 1, 1, 1, 1, 1, 1, 1]
+"#;
 
 /// A bridge between two stations.
-pub const BRIDGED: &str =
-    "express_from = 4\n[[node]]\nname = \"a\"\nkind = \"station\"\n[[node]]\nname = \"m\"\nkind = \"bridge\"\nlatency = 100\n[[node]]\nname = \"b\"\nkind = \"station\"\n[[link]]\nends = [\"a\", \"m\"]\ncost = 1\nmode = \"on\"\nrings = [64, 64, 64, 64, 64, 64, 64, 64]\n[[link]]\nends = [\"m\", \"b\"]\ncost = 1\nmode = \"on\"\nrings = [64, 64, 64, 64, 64, 64, 64, 64]\n";
+pub const BRIDGED: &str = r#"express_from = 4
+[[node]]
+name = "a"
+kind = "station"
+[[node]]
+name = "m"
+kind = "bridge"
+latency = 100
+[[node]]
+name = "b"
+kind = "station"
+[[link]]
+ends = ["a", "m"]
+cost = 1
+mode = "on"
+rings = [64, 64, 64, 64, 64, 64, 64, 64]
+[[link]]
+ends = ["m", "b"]
+cost = 1
+mode = "on"
+rings = [64, 64, 64, 64, 64, 64, 64, 64]
+"#;
 
 /// The built-in stream and flow.
 pub const TWO_ROWS: &str =
@@ -37,44 +114,262 @@ pub const SHORT_ROWS: &str =
     "[[stream]]\nname = \"x\"\nvid = 10\nprio = 6\nroute = [\"a\", \"b\"]\nmax = 64\nburst = 84\nrate = 1000\n[[flow]]\nname = \"y\"\nvid = 20\nprio = 0\nroute = [\"a\", \"b\"]\nmax = 1522\n";
 
 /// Two streams, of which the second may send more at once.
-pub const TWO_STREAMS: &str =
-    "[[stream]]\nname = \"x\"\nvid = 10\nprio = 6\nroute = [\"a\", \"b\"]\nmax = 64\nburst = 84\nrate = 1000\n[[stream]]\nname = \"z\"\nvid = 11\nprio = 7\nroute = [\"a\", \"b\"]\nmax = 64\nburst = 168\nrate = 1000\n";
+pub const TWO_STREAMS: &str = r#"[[stream]]
+name = "x"
+vid = 10
+prio = 6
+route = ["a", "b"]
+max = 64
+burst = 84
+rate = 1000
+[[stream]]
+name = "z"
+vid = 11
+prio = 7
+route = ["a", "b"]
+max = 64
+burst = 168
+rate = 1000
+"#;
 
 /// A flow of the greatest frames.
 pub const WIDE_FLOW: &str =
     "[[flow]]\nname = \"y\"\nvid = 20\nprio = 0\nroute = [\"a\", \"b\"]\nmax = 2000\n";
 
 /// A stream of short frames and a flow by way of the bridge.
-pub const BY_BRIDGE: &str =
-    "[[stream]]\nname = \"x\"\nvid = 10\nprio = 6\nroute = [\"a\", \"m\", \"b\"]\nmax = 64\nburst = 84\nrate = 1000\n[[flow]]\nname = \"y\"\nvid = 20\nprio = 0\nroute = [\"a\", \"m\", \"b\"]\nmax = 1522\n";
+pub const BY_BRIDGE: &str = r#"[[stream]]
+name = "x"
+vid = 10
+prio = 6
+route = ["a", "m", "b"]
+max = 64
+burst = 84
+rate = 1000
+[[flow]]
+name = "y"
+vid = 20
+prio = 0
+route = ["a", "m", "b"]
+max = 1522
+"#;
 
 /// Two stations whose frames go by way of one bridge to a third one.
-pub const TWO_ARCS: &str =
-    "express_from = 4\n[[node]]\nname = \"a\"\nkind = \"station\"\n[[node]]\nname = \"c\"\nkind = \"station\"\n[[node]]\nname = \"m\"\nkind = \"bridge\"\nlatency = 100\n[[node]]\nname = \"b\"\nkind = \"station\"\n[[link]]\nends = [\"a\", \"m\"]\ncost = 1\nmode = \"on\"\nrings = [64, 64, 64, 64, 64, 64, 64, 64]\n[[link]]\nends = [\"c\", \"m\"]\ncost = 1\nmode = \"on\"\nrings = [64, 64, 64, 64, 64, 64, 64, 64]\n[[link]]\nends = [\"m\", \"b\"]\ncost = 1\nmode = \"on\"\nrings = [64, 64, 64, 64, 64, 64, 64, 64]\n";
+pub const TWO_ARCS: &str = r#"express_from = 4
+[[node]]
+name = "a"
+kind = "station"
+[[node]]
+name = "c"
+kind = "station"
+[[node]]
+name = "m"
+kind = "bridge"
+latency = 100
+[[node]]
+name = "b"
+kind = "station"
+[[link]]
+ends = ["a", "m"]
+cost = 1
+mode = "on"
+rings = [64, 64, 64, 64, 64, 64, 64, 64]
+[[link]]
+ends = ["c", "m"]
+cost = 1
+mode = "on"
+rings = [64, 64, 64, 64, 64, 64, 64, 64]
+[[link]]
+ends = ["m", "b"]
+cost = 1
+mode = "on"
+rings = [64, 64, 64, 64, 64, 64, 64, 64]
+"#;
 
 /// Their streams, of one priority.
-pub const BY_TWO_ARCS: &str =
-    "[[stream]]\nname = \"x\"\nvid = 10\nprio = 6\nroute = [\"a\", \"m\", \"b\"]\nmax = 64\nburst = 168\nrate = 1000\n[[stream]]\nname = \"z\"\nvid = 11\nprio = 6\nroute = [\"c\", \"m\", \"b\"]\nmax = 64\nburst = 168\nrate = 1000\n";
+pub const BY_TWO_ARCS: &str = r#"[[stream]]
+name = "x"
+vid = 10
+prio = 6
+route = ["a", "m", "b"]
+max = 64
+burst = 168
+rate = 1000
+[[stream]]
+name = "z"
+vid = 11
+prio = 6
+route = ["c", "m", "b"]
+max = 64
+burst = 168
+rate = 1000
+"#;
 
 /// Two stations that each have a bridge to a third one: the link to the second bridge is one tick longer, and that bridge is one tick faster.
-pub const TWO_BRIDGES: &str =
-    "express_from = 4\n[[node]]\nname = \"a\"\nkind = \"station\"\n[[node]]\nname = \"c\"\nkind = \"station\"\n[[node]]\nname = \"m\"\nkind = \"bridge\"\nlatency = 100\n[[node]]\nname = \"n\"\nkind = \"bridge\"\nlatency = 99\n[[node]]\nname = \"b\"\nkind = \"station\"\n[[link]]\nends = [\"a\", \"m\"]\ncost = 1\nmode = \"on\"\nrings = [64, 64, 64, 64, 64, 64, 64, 64]\n[[link]]\nends = [\"c\", \"n\"]\ncost = 1\ndelay = 1\nmode = \"on\"\nrings = [64, 64, 64, 64, 64, 64, 64, 64]\n[[link]]\nends = [\"m\", \"b\"]\ncost = 1\nmode = \"on\"\nrings = [64, 64, 64, 64, 64, 64, 64, 64]\n[[link]]\nends = [\"n\", \"b\"]\ncost = 1\nmode = \"on\"\nrings = [64, 64, 64, 64, 64, 64, 64, 64]\n";
+pub const TWO_BRIDGES: &str = r#"express_from = 4
+[[node]]
+name = "a"
+kind = "station"
+[[node]]
+name = "c"
+kind = "station"
+[[node]]
+name = "m"
+kind = "bridge"
+latency = 100
+[[node]]
+name = "n"
+kind = "bridge"
+latency = 99
+[[node]]
+name = "b"
+kind = "station"
+[[link]]
+ends = ["a", "m"]
+cost = 1
+mode = "on"
+rings = [64, 64, 64, 64, 64, 64, 64, 64]
+[[link]]
+ends = ["c", "n"]
+cost = 1
+delay = 1
+mode = "on"
+rings = [64, 64, 64, 64, 64, 64, 64, 64]
+[[link]]
+ends = ["m", "b"]
+cost = 1
+mode = "on"
+rings = [64, 64, 64, 64, 64, 64, 64, 64]
+[[link]]
+ends = ["n", "b"]
+cost = 1
+mode = "on"
+rings = [64, 64, 64, 64, 64, 64, 64, 64]
+"#;
 
 /// Their streams, of two priorities.
-pub const BY_TWO_BRIDGES: &str =
-    "[[stream]]\nname = \"x\"\nvid = 10\nprio = 6\nroute = [\"a\", \"m\", \"b\"]\nmax = 64\nburst = 168\nrate = 1000\n[[stream]]\nname = \"z\"\nvid = 11\nprio = 7\nroute = [\"c\", \"n\", \"b\"]\nmax = 64\nburst = 168\nrate = 1000\n";
+pub const BY_TWO_BRIDGES: &str = r#"[[stream]]
+name = "x"
+vid = 10
+prio = 6
+route = ["a", "m", "b"]
+max = 64
+burst = 168
+rate = 1000
+[[stream]]
+name = "z"
+vid = 11
+prio = 7
+route = ["c", "n", "b"]
+max = 64
+burst = 168
+rate = 1000
+"#;
 
 /// A line of three switches, with a controller at the first, a drive at the second, and a drive and a camera at the third one.
-pub const LINE: &str =
-    "express_from = 4\n[[node]]\nname = \"controller\"\nkind = \"station\"\n[[node]]\nname = \"switch1\"\nkind = \"bridge\"\nlatency = 500\n[[node]]\nname = \"switch2\"\nkind = \"bridge\"\nlatency = 500\n[[node]]\nname = \"switch3\"\nkind = \"bridge\"\nlatency = 500\n[[node]]\nname = \"drive1\"\nkind = \"station\"\n[[node]]\nname = \"drive2\"\nkind = \"station\"\n[[node]]\nname = \"camera\"\nkind = \"station\"\n[[link]]\nends = [\"controller\", \"switch1\"]\ncost = 1\ndelay = 6\nmode = \"off\"\n[[link]]\nends = [\"switch1\", \"switch2\"]\ncost = 1\ndelay = 6\nmode = \"off\"\n[[link]]\nends = [\"switch2\", \"switch3\"]\ncost = 1\ndelay = 6\nmode = \"off\"\n[[link]]\nends = [\"drive1\", \"switch2\"]\ncost = 1\ndelay = 6\nmode = \"off\"\n[[link]]\nends = [\"drive2\", \"switch3\"]\ncost = 1\ndelay = 6\nmode = \"off\"\n[[link]]\nends = [\"camera\", \"switch3\"]\ncost = 1\ndelay = 6\nmode = \"off\"\n";
+pub const LINE: &str = r#"express_from = 4
+[[node]]
+name = "controller"
+kind = "station"
+[[node]]
+name = "switch1"
+kind = "bridge"
+latency = 500
+[[node]]
+name = "switch2"
+kind = "bridge"
+latency = 500
+[[node]]
+name = "switch3"
+kind = "bridge"
+latency = 500
+[[node]]
+name = "drive1"
+kind = "station"
+[[node]]
+name = "drive2"
+kind = "station"
+[[node]]
+name = "camera"
+kind = "station"
+[[link]]
+ends = ["controller", "switch1"]
+cost = 1
+delay = 6
+mode = "off"
+[[link]]
+ends = ["switch1", "switch2"]
+cost = 1
+delay = 6
+mode = "off"
+[[link]]
+ends = ["switch2", "switch3"]
+cost = 1
+delay = 6
+mode = "off"
+[[link]]
+ends = ["drive1", "switch2"]
+cost = 1
+delay = 6
+mode = "off"
+[[link]]
+ends = ["drive2", "switch3"]
+cost = 1
+delay = 6
+mode = "off"
+[[link]]
+ends = ["camera", "switch3"]
+cost = 1
+delay = 6
+mode = "off"
+"#;
 
 /// Set points, an alarm and images over that line.
-pub const BY_LINE: &str =
-    "[[stream]]\nname = \"axis1\"\nvid = 10\nprio = 6\nroute = [\"controller\", \"switch1\", \"switch2\", \"drive1\"]\nmax = 64\nburst = 84\nrate = 1000\n[[stream]]\nname = \"axis2\"\nvid = 11\nprio = 6\nroute = [\"controller\", \"switch1\", \"switch2\", \"switch3\", \"drive2\"]\nmax = 64\nburst = 84\nrate = 1000\n[[stream]]\nname = \"alarm\"\nvid = 12\nprio = 7\nroute = [\"drive2\", \"switch3\", \"switch2\", \"switch1\", \"controller\"]\nmax = 64\nburst = 84\nrate = 1000\n[[flow]]\nname = \"video\"\nvid = 20\nprio = 0\nroute = [\"camera\", \"switch3\", \"switch2\", \"switch1\", \"controller\"]\nmax = 1522\n";
+pub const BY_LINE: &str = r#"[[stream]]
+name = "axis1"
+vid = 10
+prio = 6
+route = ["controller", "switch1", "switch2", "drive1"]
+max = 64
+burst = 84
+rate = 1000
+[[stream]]
+name = "axis2"
+vid = 11
+prio = 6
+route = ["controller", "switch1", "switch2", "switch3", "drive2"]
+max = 64
+burst = 84
+rate = 1000
+[[stream]]
+name = "alarm"
+vid = 12
+prio = 7
+route = ["drive2", "switch3", "switch2", "switch1", "controller"]
+max = 64
+burst = 84
+rate = 1000
+[[flow]]
+name = "video"
+vid = 20
+prio = 0
+route = ["camera", "switch3", "switch2", "switch1", "controller"]
+max = 1522
+"#;
 
 /// Two stations and a link that preempts.
-pub const PAIR: &str =
-    "express_from = 4\n[[node]]\nname = \"a\"\nkind = \"station\"\n[[node]]\nname = \"b\"\nkind = \"station\"\n[[link]]\nends = [\"a\", \"b\"]\ncost = 1\nmode = \"on\"\nrings = [64, 64, 64, 64, 64, 64, 64, 64]\n";
+pub const PAIR: &str = r#"express_from = 4
+[[node]]
+name = "a"
+kind = "station"
+[[node]]
+name = "b"
+kind = "station"
+[[link]]
+ends = ["a", "b"]
+cost = 1
+mode = "on"
+rings = [64, 64, 64, 64, 64, 64, 64, 64]
+"#;
 
 /// The same, where a fragment that is cut has 124 octets of its frame at least.
 pub const LONG_FRAGMENTS: &str = "node = [
