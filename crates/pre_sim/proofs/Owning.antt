@@ -38,4 +38,4 @@ holds_its_own w tick t k h p long kept reached =
     let taken = rings w.net.arcs p.lanes.items long room in
     let within = on_wires w.net.arcs p.lanes.items room in
     let out = count_by-le-length (λ o. is_some o) p.store in
-    record { slots = all; out = omega (arith, all, out); rings = taken; on_wires = omega (arith, taken, within) }
+    record { store = all; out = omega (arith, all, out); rings = taken; on_wires = omega (arith, taken, within) }

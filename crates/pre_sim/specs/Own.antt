@@ -17,7 +17,7 @@ wire_octets l = length l.incoming.wire.octets.items
 -- The store has as many slots as the network says, and the rings of the wires take as many octets together. No more slots are
 -- out, and no more octets are on the wires.
 pub record HoldsItsOwn (net : Network) (p : Progress) : Type 0 where
-  pub slots : length p.store ≡ slots net
+  pub store : length p.store ≡ slots net
   pub out : slots_out p.store ≤ slots net
   pub rings : sum_by ring_octets p.lanes.items ≡ wires net
   pub on_wires : sum_by wire_octets p.lanes.items ≤ wires net

@@ -59,4 +59,5 @@ returns-clause-own c =
     let p : Progress = record { lanes = c.in_ok-idle_lanes.field-0; relay = c.in_ok-make.field-0; store = c.in_ok-make-2.field-0; set = 0; sent = 0; delivered = 0; dropped = 0 } in
     let before = invariant_of-result c in
     let at = before.3 refl in
-    holds_its_own w 0 0 0 at.3.0 p before.1 at.1 at.3.1
+    let long : length p.lanes.items ≡ length w.net.arcs = search rules in
+    holds_its_own w 0 0 0 at.3.0 p long at.1 at.3.1

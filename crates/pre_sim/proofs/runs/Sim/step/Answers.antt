@@ -1,4 +1,4 @@
-use Rattle.std.proofs.Common.{rules, refl, sym, subst, arith, ◌+◌, ◌≤◌, ◌++◌}
+use Rattle.std.proofs.Common.{rules, refl, sym, subst, arith, length, ◌≡◌, ◌+◌, ◌≤◌, ◌++◌}
 use Rattle.pre_sim.specs.Parts.{TickPart, AdvancePart, scenario_of}
 use Rattle.pre_sim.specs.Views.{SimView}
 use Rattle.pre_sim.proofs.StepParts.{tells_more, tells_ended, stops, finds_alias, same_alias, not_last, kept_later, within_later, ready_later}
@@ -72,4 +72,5 @@ returns-in-Ok-false-clause-own g c = λ going.
     let now = c.next_due-self-inside.result.0 in
     let after = invariant_of-self-in-Ok-false g c in
     let at = after.3 (search rules) in
-    holds_its_own w now now 0 at.3.0 c.advance.new.progress after.1 at.1 at.3.1
+    let long : length c.advance.new.progress.lanes.items ≡ length w.net.arcs = search rules in
+    holds_its_own w now now 0 at.3.0 c.advance.new.progress long at.1 at.3.1
