@@ -137,7 +137,7 @@ pub(crate) fn hop_rows(
 }
 
 /// The bounds of all streams.
-pub(crate) fn bound_rows(
+pub fn bound_rows(
     alloc: Global,
     net: &Network,
     rows: &[Row],
