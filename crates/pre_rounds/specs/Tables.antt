@@ -1,8 +1,8 @@
 -- The bursts of all rows in one list, sixteen for a row, and the delays of all ports.
-use Rattle.std.specs.Prelude.{◌≡◌, ℕ, ◌+◌, ◌*◌, ◌<◌, List, slice_index, false}
+use Rattle.std.specs.Prelude.{◌≡◌, ℕ, ◌+◌, ◌*◌, ◌<◌, List, length, slice_index, false}
 use Rattle.pre_topo.specs.declared.network.Network.{Network}
 use Rattle.pre_streams.specs.declared.rows.Row.{Row}
-use Rattle.pre_bound.specs.Good.{AtPorts}
+use Rattle.pre_bound.specs.Good.{AtPorts, AtStreams}
 use Rattle.pre_certify.specs.Tables.{delays_in, AreWithin}
 use Rattle.pre_rounds.specs.Rounds.{Bursts, delay_over, round_bursts}
 use Rattle.pre_rounds.specs.Settling.{SameBursts, SettlesAt}
@@ -34,6 +34,11 @@ HaveDelays net rows bursts table place = AtPorts net rows (λ arc prio. arc * 8 
 pub record AreSettled (net : Network) (rows : List Row) (bursts delays : List ℕ) : Type 0 where
   pub round : ℕ
   pub settles : SettlesAt net rows round
-  pub bursts : IsRound net rows round bursts
-  pub delays : AreDelays net rows (bursts_in bursts) delays
+  pub has_bursts : IsRound net rows round bursts
+  pub has_delays : AreDelays net rows (bursts_in bursts) delays
   pub small : AtPorts net rows (λ arc prio. passes_over net rows (bursts_in bursts) arc prio ≡ false)
+
+-- the table has these bursts at the places before this one
+abbrev pub HasBursts : List Row → List ℕ → Bursts → ℕ → Type 0
+HasBursts rows table bursts place =
+    AtStreams rows (λ stream r. (hop : ℕ) → hop < length r.arcs → hop < 16 → stream * 16 + hop < place → bursts_in table stream hop ≡ bursts stream hop)

@@ -130,7 +130,7 @@ pub(crate) fn settle(alloc: Global, net: &Network, rows: &[Row]) -> Result<Settl
     let mut bursts = first_table(alloc, rows)?;
     let mut delays = Items::from_vec(vec![in alloc; 0; net.arcs.len() * 8]?);
     let (mut arc, mut prio) = (ArcId(0), Prio(0));
-    for _round in 0..ROUNDS {
+    for round in 0..ROUNDS {
         if let Err(port) = put_delays(net, rows, bursts.as_slice(), &mut delays) {
             return Err(RoundsFault::Large {
                 arc: port.arc,

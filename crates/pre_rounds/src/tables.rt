@@ -7,7 +7,7 @@ ghost use Rattle.pre_streams.specs.declared.rows.Row.{Row};
 ghost use Rattle.pre_rounds.specs.Rounds.{declared, next_bursts};
 ghost use Rattle.pre_rounds.specs.Passing.{passes_over};
 ghost use Rattle.pre_rounds.specs.Settling.{SameBursts};
-ghost use Rattle.pre_rounds.specs.Routed.{AreRouted};
+ghost use Rattle.pre_rounds.specs.Routed.{AreRouted, AreShort};
 ghost use Rattle.pre_rounds.specs.Tables.{bursts_in, AreDelays};
 
 use pre_base::{ArcId, Items};
@@ -37,6 +37,7 @@ pub(crate) fn burst_at(bursts: &[u64], stream: usize, hop: usize) -> u64
 /// The table of the declared bursts.
 pub(crate) fn first_table(alloc: Global, rows: &[Row]) -> Result<Items<u64>, AllocError>
     requires few { length rows.now ≤ 512 }
+    requires short { AreShort rows.now }
     ensures within { IfOk result (λ table. AreWithin table) }
     ensures same { IfOk result (λ table. SameBursts rows.now (bursts_in table) (declared rows.now)) }
 {

@@ -1,0 +1,5 @@
+pub mod Numbered
+pub mod Same
+pub mod Places
+pub mod Settled
+pub mod Filling
