@@ -3,3 +3,4 @@ pub mod Same
 pub mod Places
 pub mod Settled
 pub mod Filling
+pub mod Stepping
