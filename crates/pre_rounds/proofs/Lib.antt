@@ -4,3 +4,5 @@ pub mod Places
 pub mod Settled
 pub mod Filling
 pub mod Stepping
+pub mod Routes
+pub mod Writing
