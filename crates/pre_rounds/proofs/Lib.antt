@@ -6,3 +6,5 @@ pub mod Filling
 pub mod Stepping
 pub mod Routes
 pub mod Writing
+pub mod Good
+pub mod Least
