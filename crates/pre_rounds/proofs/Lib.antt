@@ -8,3 +8,5 @@ pub mod Routes
 pub mod Writing
 pub mod Good
 pub mod Least
+pub mod AtMost
+pub mod Alone
