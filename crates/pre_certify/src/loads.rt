@@ -24,7 +24,7 @@ pub fn is_on(row: &Row, arc: ArcId, low: u8, high: u8) -> bool
     row.curve.is_some() && low <= prio && prio < high && takes(row, arc)
 }
 
-/// Whether a stream of this priority uses the arc.
+/// Whether a stream of this priority uses the arc, so that the two are a port.
 pub fn has_port(rows: &[Row], arc: ArcId, prio: u8) -> bool
     requires { prio < 8 }
     ensures { result ≡ has_port rows.now arc.0 prio }
@@ -61,7 +61,7 @@ pub fn hop_of(row: &Row, arc: ArcId) -> usize
     arcs.len()
 }
 
-/// The rate of a stream, and 0 of a flow.
+/// The rate of a stream in wire octets for each 1,000,000 ticks, and 0 of a flow.
 pub fn rate_of(row: &Row) -> u64
     ensures rate { result ≡ rate_of row.now }
     ensures within { result ≤ 10 ^ 12 }
@@ -72,7 +72,7 @@ pub fn rate_of(row: &Row) -> u64
     }
 }
 
-/// The declared burst of a stream, and 0 of a flow.
+/// The declared burst of a stream in wire octets, and 0 of a flow.
 pub fn burst_of(row: &Row) -> u64
     ensures burst { result ≡ burst_of row.now }
     ensures within { result ≤ 10 ^ 12 }
@@ -98,7 +98,7 @@ pub fn rates_on(rows: &[Row], arc: ArcId, low: u8, high: u8) -> u64
     rates
 }
 
-/// The ticks that an octet takes on the arc.
+/// The ticks that an octet takes on the arc, and 0 where there is no such arc.
 pub fn cost_at(net: &Network, arc: ArcId) -> u64
     ensures cost { result ≡ cost_at net.now arc.0 }
     ensures within { result ≤ 1000 }

@@ -15,7 +15,7 @@ use pre_bound::{Certificate, PortRow, grown, hop_delay, queue_size};
 use pre_streams::Row;
 use pre_topo::{Arc, Mode, Network, Policy};
 
-/// The delay of a port, from the table of eight for each arc.
+/// The delay of a port in ticks, from the table of eight for each arc.
 pub fn delay_at(delays: &[u64], arc: ArcId, prio: Prio) -> u64
     requires { AreWithin delays.now }
     ensures delay { result ≡ delays_in delays.now arc.0 prio }

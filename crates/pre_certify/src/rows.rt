@@ -136,7 +136,7 @@ pub(crate) fn hop_rows(
     Ok(found)
 }
 
-/// The bounds of all streams.
+/// The bounds of all streams in ticks, over a table of delays by which none passes 10^12.
 pub fn bound_rows(
     alloc: Global,
     net: &Network,

@@ -85,7 +85,7 @@ module _ (net : Network) (rows : List Row) where
   settled_unsettled : (i b q : ℕ) → SettlesAt net rows i → FirstUnsettled net rows b q → ⊥
   settled_unsettled i b q settles none = settled_ends i settles (none.before i (omega (arith, settles.within)))
 
-  wide_ticks : (delays : Delays) (stream hop : ℕ) (first : FirstWide net rows delays stream hop) → limit < ticks_before net delays first.row (length first.row.arcs)
+  pub wide_ticks : (delays : Delays) (stream hop : ℕ) (first : FirstWide net rows delays stream hop) → limit < ticks_before net delays first.row (length first.row.arcs)
   wide_ticks delays stream hop first =
       let more = ticks_le net delays first.row (hop + 1) (length first.row.arcs) (omega (arith, first.within)) (omega arith) in
       omega (arith, more, first.wide)

@@ -88,7 +88,7 @@ module _ (net : Network) (rows : List Row) (routed : AreRouted net rows) (v : Va
         (bursts_le a p (p + 1)) (delay_le a p inside prio port) (good.size a p inside prio port)
 
     -- so are those of the next round
-    next_below : BurstsBelow (next_bursts net rows b)
+    pub next_below : BurstsBelow (next_bursts net rows b)
     next_below stream r is zero inside = declared_below stream r is 0 inside
     next_below stream r is (suc hop) inside =
         let d : ArcId = record { 0 = 0 } in

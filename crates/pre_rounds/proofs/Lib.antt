@@ -10,3 +10,4 @@ pub mod Good
 pub mod Least
 pub mod AtMost
 pub mod Alone
+pub mod Completed

@@ -1,4 +1,4 @@
-ghost use Rattle.std.specs.Prelude.{◌≡◌, ◌⊎◌, IfOk, IfErr, false};
+ghost use Rattle.std.specs.Prelude.{◌≡◌, ◌⊎◌, IfOk, IfErr, true, false};
 ghost use Rattle.pre_streams.specs.Fits.{Fits};
 ghost use Rattle.pre_bound.specs.Good.{AtPorts};
 ghost use Rattle.pre_bound.specs.Settled.{PriosBelow};
@@ -7,7 +7,7 @@ ghost use Rattle.pre_certify.specs.Loads.{NoOverload};
 ghost use Rattle.pre_certify.specs.Tables.{delays_in};
 ghost use Rattle.pre_rounds.specs.Passing.{is_short};
 ghost use Rattle.pre_rounds.specs.Causes.{Cause, NoneWide};
-ghost use Rattle.pre_rounds.specs.Answers.{IsOfSettled, HasNoRanks, NoneCaused, IsAlone};
+ghost use Rattle.pre_rounds.specs.Answers.{IsOfSettled, HasNoRanks, NoneCaused, IsAlone, HasGoodCertificate, leaves_open};
 ghost use Rattle.pre_rounds.specs.Routed.{AreRouted};
 ghost use Rattle.pre_rounds.specs.Tables.{bursts_in, AreSettled};
 ghost use Rattle.pre_rounds.specs.declared.faults.RoundsFault.TheVariants.{Memory};
@@ -113,13 +113,15 @@ fn answer(alloc: Global, net: &Network, rows: &[Row]) -> Result<Certificate, Rou
 /// - `Ring`: where the ring of a port has too little room: the first such port by arc and priority, and the room that it needs;
 /// - `Memory`.
 ///
-/// Each comes only where none of those before it does. Where a fault has a cause, no other answer comes, but `Memory`.
+/// Each comes only where none of those before it does. Where a fault has a cause, no other answer comes, but `Memory`. Where there
+/// is a good certificate, with ranks or without, no fault comes but `Unsettled` and `Memory`.
 pub fn rounds(alloc: Global, net: &Network, streams: &Streams) -> Result<Certificate, RoundsFault>
     requires { Fits net.now streams.now }
     ensures numbers { IfOk result (IsOfSettled net.now streams.now.rows) }
     ensures least { IfOk result (Least net.now streams.now) }
     ensures unranked { IfOk result HasNoRanks }
     ensures cause { IfErr result (Cause net.now streams.now.rows) }
+    ensures complete { HasGoodCertificate net.now streams.now → IfErr result (λ e. leaves_open e ≡ true) }
     ensures none { IfOk result (λ c. NoneCaused net.now streams.now.rows) }
     ensures alone { IfErr result (λ e. (e ≡ Memory) ⊎ IsAlone net.now streams.now.rows e) }
 {

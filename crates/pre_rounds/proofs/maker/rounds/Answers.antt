@@ -9,6 +9,7 @@ use Rattle.pre_rounds.specs.Answers.{IsOfSettled}
 use Rattle.pre_rounds.proofs.Routes.{are_routed}
 use Rattle.pre_rounds.proofs.Good.{no_ranks}
 use Rattle.pre_rounds.proofs.AtMost.{least_certificate}
+use Rattle.pre_rounds.proofs.Completed.{complete_answer}
 use Rattle.pre_rounds.proofs.Alone.{alone_answer, none_answer}
 use Rattle.pre_rounds.proofs.maker.rounds.Goals as goal
 
@@ -44,3 +45,10 @@ returns-clause-none c =
 pub returns-clause-alone : goal.returns-clause-alone
 returns-clause-alone c =
     alone_answer c.args.net.now c.args.streams.now.rows c.answer.result (subst (λ (l : List Row). IfErr c.answer.result (Cause c.args.net.now l)) c.as_slice-2.ensures c.answer.ensures.cause)
+
+pub returns-clause-complete : goal.returns-clause-complete
+returns-clause-complete c =
+    let net = c.args.net.now in
+    let streams = c.args.streams.now in
+    let routed = are_routed net streams c.requires (subst (λ (l : List Row). PriosBelow l) c.as_slice.ensures c.prios_below.ensures) in
+    complete_answer net streams routed c.answer.result (subst (λ (l : List Row). IfErr c.answer.result (Cause net l)) c.as_slice-2.ensures c.answer.ensures.cause)
