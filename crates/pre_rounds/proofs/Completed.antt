@@ -1,6 +1,6 @@
 -- Where there is a good certificate, no round passes the limit, and the settled one fits.
-use Rattle.std.proofs.Common.{◌≡◌, ℕ, suc, ◌+◌, ◌*◌, ◌/◌, ◌<◌, ◌≤◌, Bool, true, false, List, Result, Ok, Err, refl, sym, ◌∙◌, ap, subst, arith, inl, inr, length, get_or}
-use Rattle.std.specs.Prelude.{slice_get, nat_lt, ◌||◌, IfErr}
+use Rattle.std.proofs.Common.{◌≡◌, ℕ, suc, ◌+◌, ◌*◌, ◌<◌, ◌≤◌, true, false, List, Result, Ok, Err, refl, sym, ◌∙◌, ap, arith, inl, inr, length, get_or}
+use Rattle.std.specs.Prelude.{nat_lt, ◌||◌, IfErr}
 use Rattle.std.specs.List.{list_any, enumerate_from}
 use Rattle.std.proofs.lemmas.Bool.{or_cases, and_parts, ltb-true, leb-true, true≢false}
 use Rattle.std.proofs.lemmas.List.{take_all}
@@ -18,13 +18,12 @@ use Rattle.pre_bound.specs.Values.{Values}
 use Rattle.pre_bound.specs.Good.{AreGood, IsStream}
 use Rattle.pre_bound.specs.Complete.{ValuesWithin}
 use Rattle.pre_bound.specs.Listed.{GoodCertificate}
-use Rattle.pre_bound.specs.Passing.{ticks_before}
 use Rattle.pre_bound.proofs.Hops.{TakesAt-place, TakesAt-hop_of, OnArc-from}
 use Rattle.pre_bound.proofs.AtLeast.{good_block-le}
 use Rattle.pre_bound.proofs.Completed.{values_within}
 use Rattle.pre_certify.specs.Loads.{FirstOverload}
-use Rattle.pre_rounds.specs.Rounds.{work_over, delay_over, size_over, next_bursts, round_bursts}
-use Rattle.pre_rounds.specs.Passing.{numbers_pass, goes_on, leaving_passes, passes_over, need_over}
+use Rattle.pre_rounds.specs.Rounds.{work_over, delay_over, size_over, round_bursts}
+use Rattle.pre_rounds.specs.Passing.{numbers_pass, goes_on, leaving_passes, need_over}
 use Rattle.pre_rounds.specs.Causes.{FirstLarge, FirstWideRound, FirstShort, round_delays, Cause}
 use Rattle.pre_rounds.specs.Answers.{HasGoodCertificate, leaves_open}
 use Rattle.pre_rounds.specs.Routed.{AreRouted}

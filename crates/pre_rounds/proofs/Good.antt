@@ -1,7 +1,7 @@
 -- The numbers of a settled round are good.
-use Rattle.std.proofs.Common.{◌≡◌, ℕ, suc, ◌+◌, ◌*◌, ◌/◌, ◌<◌, ◌≤◌, max, true, false, List, Some, refl, sym, ◌∙◌, ap, subst, arith, length, if◌then◌else◌}
+use Rattle.std.proofs.Common.{◌≡◌, ℕ, suc, ◌+◌, ◌*◌, ◌≤◌, max, true, false, List, Some, refl, sym, ◌∙◌, ap, subst, arith, if◌then◌else◌}
 use Rattle.std.specs.Prelude.{slice_get, Contains, filter, All, IsNone}
-use Rattle.std.specs.Option.{option_map_or, option_map}
+use Rattle.std.specs.Option.{option_map_or}
 use Rattle.std.proofs.Math.Nat.{mul-le-mul_left, le-max_left, le-max_right}
 use Rattle.std.proofs.lemmas.Bool.{ltb-false}
 use Rattle.std.proofs.lemmas.List.Elements.{All-map}
@@ -13,20 +13,19 @@ use Rattle.pre_streams.specs.declared.rows.Row.{Row}
 use Rattle.pre_streams.specs.declared.rows.Streams.{Streams}
 use Rattle.pre_bound.specs.declared.rows.ArcRow.{ArcRow}
 use Rattle.pre_bound.specs.declared.certificate.Certificate.{Certificate}
-use Rattle.pre_bound.specs.Solutions.{CoversDelay, CoversGrowth, CoversQueue, least_growth}
-use Rattle.pre_bound.specs.Uses.{TakesAt, hop_of, is_on, rate_of, burst_of, cost_at, ring_at, preemptable_at, largest_at, largest_used, rates_on}
+use Rattle.pre_bound.specs.Solutions.{CoversGrowth, least_growth}
+use Rattle.pre_bound.specs.Uses.{TakesAt, is_on, rate_of, burst_of, cost_at, ring_at, preemptable_at, largest_at, largest_used, rates_on}
 use Rattle.pre_bound.specs.Along.{route_ticks, least_block, rate_above}
-use Rattle.pre_bound.specs.Clauses.{Block, Growth}
+use Rattle.pre_bound.specs.Clauses.{Growth}
 use Rattle.pre_bound.specs.Good.{AreGood, IsStream}
 use Rattle.pre_bound.specs.Places.{arcs_of}
-use Rattle.pre_bound.specs.Listed.{Says, GoodCertificate, arc_row}
+use Rattle.pre_bound.specs.Listed.{GoodCertificate, arc_row}
 use Rattle.pre_bound.proofs.Solved.{least_delay-covers, least_growth-covers, least_size-covers}
 use Rattle.pre_bound.proofs.Sums.{first-le-greatest, each-le-greatest}
 use Rattle.pre_bound.proofs.Hops.{TakesAt-place}
-use Rattle.pre_certify.specs.Loads.{NoOverload}
 use Rattle.pre_certify.proofs.Loading.{part_fits, loads_fit}
-use Rattle.pre_rounds.specs.Rounds.{bursts_over, work_over, delay_over, size_over, declared, next_bursts, round_bursts, round_values}
-use Rattle.pre_rounds.specs.Passing.{need_over, is_short}
+use Rattle.pre_rounds.specs.Rounds.{bursts_over, work_over, delay_over, declared, next_bursts, round_bursts, round_values}
+use Rattle.pre_rounds.specs.Passing.{need_over}
 use Rattle.pre_rounds.specs.Answers.{IsOfSettled, HasNoRanks}
 use Rattle.pre_rounds.proofs.Settled.{round-next, first_hop, next-behind}
 

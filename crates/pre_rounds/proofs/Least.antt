@@ -1,6 +1,6 @@
 -- The numbers of a round are at most all good ones.
-use Rattle.std.proofs.Common.{◌≡◌, ℕ, zero, suc, ◌+◌, ◌*◌, ◌<◌, ◌≤◌, Bool, true, false, List, [], ◌∷◌, Some, None, refl, sym, ◌∙◌, ap, subst, arith, inl, inr, length, get_or, map, unwrap_or}
-use Rattle.std.specs.Prelude.{slice_get, sum_by, filter, Contains, All}
+use Rattle.std.proofs.Common.{◌≡◌, ℕ, zero, suc, ◌+◌, ◌<◌, ◌≤◌, Bool, true, List, [], ◌∷◌, sym, ap, subst, arith, inl, inr, length, get_or}
+use Rattle.std.specs.Prelude.{sum_by, filter, Contains}
 use Rattle.std.specs.Option.{option_map_or, option_map}
 use Rattle.std.specs.List.{enumerate_from}
 use Rattle.std.proofs.Math.Nat.{mul-le-mul_left}
@@ -10,12 +10,12 @@ use Rattle.std.proofs.lemmas.Option.{slice_get-get_or}
 use Rattle.pre_base.specs.declared.numbers.ArcId.{ArcId}
 use Rattle.pre_topo.specs.declared.network.Network.{Network}
 use Rattle.pre_streams.specs.declared.rows.Row.{Row}
-use Rattle.pre_bound.specs.Solutions.{CoversDelay, least_growth}
+use Rattle.pre_bound.specs.Solutions.{CoversDelay}
 use Rattle.pre_bound.specs.Uses.{TakesAt, hop_of, is_on, has_port, rate_of, rates_on, cost_at}
 use Rattle.pre_bound.specs.Along.{hop_ticks, route_ticks, least_block, rate_above}
 use Rattle.pre_bound.specs.Values.{Values}
 use Rattle.pre_bound.specs.Clauses.{certified_bursts}
-use Rattle.pre_bound.specs.Good.{AreGood, IsStream, AtPorts}
+use Rattle.pre_bound.specs.Good.{AreGood, IsStream}
 use Rattle.pre_bound.specs.Settled.{ValuesAtMost}
 use Rattle.pre_bound.proofs.Solved.{least_delay-le, least_growth-le, least_size-le}
 use Rattle.pre_bound.proofs.Sums.{sum_by-le-at, contains_head, contains_tail}

@@ -1,6 +1,6 @@
 -- Rows with their numbers: sums and tests over them, one row further, and at one row.
-use Rattle.std.proofs.Common.{◌≡◌, ℕ, zero, suc, ◌+◌, ◌<◌, Bool, true, false, List, [], ◌∷◌, ◌++◌, Some, refl, sym, ◌∙◌, ap, subst, arith, inl, inr, length, get_or, take}
-use Rattle.std.specs.Prelude.{slice_get, sum_by, filter, ◌||◌, is_some}
+use Rattle.std.proofs.Common.{◌≡◌, ℕ, zero, suc, ◌+◌, ◌<◌, Bool, true, false, List, [], ◌∷◌, Some, refl, sym, ◌∙◌, ap, subst, arith, inl, inr, length, get_or, take}
+use Rattle.std.specs.Prelude.{slice_get, sum_by, filter, ◌||◌}
 use Rattle.std.specs.List.{list_any, enumerate_from}
 use Rattle.std.proofs.lemmas.Bool.{cases_Bool, or_from, or_left, or_right, true≢false}
 use Rattle.std.proofs.lemmas.List.Sums.{fold-append}

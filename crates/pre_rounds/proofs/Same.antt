@@ -1,5 +1,5 @@
 -- Streams with the same bursts make the same numbers.
-use Rattle.std.proofs.Common.{◌≡◌, ℕ, zero, suc, ◌+◌, ◌*◌, ◌/◌, ◌<◌, ◌≤◌, Bool, true, false, List, [], ◌∷◌, Some, refl, sym, ◌∙◌, ap, subst, arith, inl, inr, length, get_or}
+use Rattle.std.proofs.Common.{◌≡◌, ℕ, zero, suc, ◌+◌, ◌*◌, ◌/◌, ◌<◌, Bool, true, false, List, [], ◌∷◌, refl, sym, ◌∙◌, ap, arith, inl, inr, length, get_or}
 use Rattle.std.specs.Prelude.{slice_get, sum_by, filter, ◌||◌, ◌&&◌, ◌==◌, nat_lt, not, Contains, is_some}
 use Rattle.std.specs.Option.{option_map_or}
 use Rattle.std.specs.List.{list_any, enumerate_from}
@@ -14,11 +14,10 @@ use Rattle.pre_bound.specs.Limits.{limit}
 use Rattle.pre_bound.specs.Solutions.{least_delay, least_growth, least_size}
 use Rattle.pre_bound.specs.Uses.{is_on, hop_of, rate_of, rates_on, cost_at, ring_at}
 use Rattle.pre_bound.specs.Along.{least_block, rate_above}
-use Rattle.pre_bound.specs.Good.{IsStream}
 use Rattle.pre_bound.proofs.Hops.{TakesAt-place, TakesAt-hop_of, OnArc-from}
 use Rattle.pre_bound.proofs.Placed.{stream_at}
 use Rattle.pre_bound.proofs.Sums.{contains_head, contains_tail}
-use Rattle.pre_rounds.specs.Rounds.{Bursts, bursts_over, work_over, delay_over, size_over, port_over, declared, next_bursts, grown_behind}
+use Rattle.pre_rounds.specs.Rounds.{Bursts, bursts_over, work_over, delay_over, size_over, port_over, next_bursts, grown_behind}
 use Rattle.pre_rounds.specs.Passing.{numbers_pass, goes_on, leaving_passes, passes_over, differs_behind, some_differs, need_over, is_short}
 use Rattle.pre_rounds.specs.Settling.{SameBursts}
 

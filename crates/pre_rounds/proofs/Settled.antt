@@ -1,8 +1,8 @@
 -- The bursts of the next round, and whether they are those of this one.
-use Rattle.std.proofs.Common.{◌≡◌, ℕ, zero, suc, ◌+◌, ◌<◌, ◌≤◌, true, false, List, Some, refl, sym, ◌∙◌, ap, subst, arith, inl, inr, length, get_or}
-use Rattle.std.specs.Prelude.{slice_get, ◌==◌, nat_lt, ◌&&◌, not, Contains}
+use Rattle.std.proofs.Common.{◌≡◌, ℕ, zero, suc, ◌+◌, ◌<◌, ◌≤◌, true, false, List, Some, refl, sym, ◌∙◌, ap, subst, arith, length, get_or}
+use Rattle.std.specs.Prelude.{slice_get, ◌==◌, nat_lt, ◌&&◌, not}
 use Rattle.std.specs.Option.{option_map_or}
-use Rattle.std.proofs.lemmas.Bool.{and_parts, and_from, not-true, not-false, eqb-true, eqb-false, lt-ltb, true≢false}
+use Rattle.std.proofs.lemmas.Bool.{and_parts, and_from, not-true, not-false, eqb-true, eqb-false, lt-ltb}
 use Rattle.std.proofs.lemmas.Option.{slice_get-get_or}
 use Rattle.pre_base.specs.declared.numbers.ArcId.{ArcId}
 use Rattle.pre_topo.specs.declared.network.Network.{Network}
@@ -10,11 +10,11 @@ use Rattle.pre_streams.specs.declared.rows.Row.{Row}
 use Rattle.pre_bound.specs.Limits.{limit}
 use Rattle.pre_bound.specs.Solutions.{least_growth}
 use Rattle.pre_bound.specs.Uses.{TakesAt, hop_of, is_on, has_port, rate_of, cost_at}
-use Rattle.pre_bound.specs.Good.{IsStream, AtPorts, AtStreams}
+use Rattle.pre_bound.specs.Good.{IsStream, AtPorts}
 use Rattle.pre_bound.proofs.Hops.{TakesAt-from, takes-from, is_on-from, has_port-from, contains_at}
 use Rattle.pre_rounds.specs.Rounds.{Bursts, delay_over, declared, next_bursts, grown_behind, round_bursts}
 use Rattle.pre_rounds.specs.Passing.{numbers_pass, goes_on, leaving_passes, passes_over, differs_behind, some_differs}
-use Rattle.pre_rounds.specs.Settling.{SameBursts, IsSettled}
+use Rattle.pre_rounds.specs.Settling.{SameBursts}
 use Rattle.pre_rounds.specs.Routed.{AreRouted}
 use Rattle.pre_rounds.proofs.Numbered.{none_numbered, some_numbered}
 use Rattle.pre_rounds.proofs.Same.{goes_behind}

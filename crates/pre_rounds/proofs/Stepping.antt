@@ -1,5 +1,5 @@
 -- One round further.
-use Rattle.std.proofs.Common.{◌≡◌, ℕ, ◌+◌, ◌*◌, ◌<◌, ◌≤◌, Bool, true, false, List, sym, ◌∙◌, ap, subst, arith, inl, inr, length}
+use Rattle.std.proofs.Common.{◌≡◌, ℕ, ◌+◌, ◌*◌, ◌≤◌, false, List, sym, ◌∙◌, subst, arith, inl, inr, length}
 use Rattle.std.proofs.lemmas.Bool.{cases_lt}
 use Rattle.pre_topo.specs.declared.network.Network.{Network}
 use Rattle.pre_streams.specs.declared.rows.Row.{Row}
@@ -7,12 +7,12 @@ use Rattle.pre_bound.specs.Good.{AtPorts}
 use Rattle.pre_certify.specs.Tables.{AreWithin}
 use Rattle.pre_rounds.specs.Rounds.{Bursts, declared, next_bursts, round_bursts}
 use Rattle.pre_rounds.specs.Passing.{passes_over, some_differs}
-use Rattle.pre_rounds.specs.Settling.{last_round, SameBursts, IsSettled, NonePasses, GoesOn, GoOnBefore, SettlesAt, IsFirstPort}
-use Rattle.pre_rounds.specs.Causes.{FirstLarge, FirstUnsettled}
+use Rattle.pre_rounds.specs.Settling.{last_round, SameBursts, IsSettled, NonePasses, GoesOn, GoOnBefore, IsFirstPort}
+use Rattle.pre_rounds.specs.Causes.{FirstLarge}
 use Rattle.pre_rounds.specs.Routed.{AreRouted}
-use Rattle.pre_rounds.specs.Tables.{bursts_in, IsRound, AreDelays, HaveDelays, AreSettled}
+use Rattle.pre_rounds.specs.Tables.{bursts_in, IsRound, AreDelays, HaveDelays}
 use Rattle.pre_rounds.proofs.Same.{passes_over-same, some_differs-same, next_bursts-same, SameBursts-trans, SameBursts-sym}
-use Rattle.pre_rounds.proofs.Places.{first_same, all_ports}
+use Rattle.pre_rounds.proofs.Places.{first_same}
 use Rattle.pre_rounds.proofs.Settled.{round-next, round-first, first_hop, settled_from, unsettled_from}
 
 module _ (net : Network) (rows : List Row) where

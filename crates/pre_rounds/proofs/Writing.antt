@@ -1,6 +1,6 @@
 -- The rows that were found are those of the settled round, and within the limit.
-use Rattle.std.proofs.Common.{◌≡◌, ℕ, zero, suc, ◌+◌, ◌*◌, ◌/◌, ◌%◌, ◌<◌, ◌≤◌, Bool, true, false, List, [], ◌∷◌, None, refl, sym, ◌∙◌, ap, subst, arith, length, get_or, map}
-use Rattle.std.specs.Prelude.{slice_get, All, filter, Contains, nat_lt, ◌||◌, IsSome}
+use Rattle.std.proofs.Common.{◌≡◌, ℕ, zero, suc, ◌+◌, ◌*◌, ◌/◌, ◌%◌, ◌<◌, ◌≤◌, true, false, List, refl, sym, ◌∙◌, ap, subst, arith, length, get_or, map}
+use Rattle.std.specs.Prelude.{All, nat_lt, ◌||◌}
 use Rattle.std.specs.Option.{option_map_or}
 use Rattle.std.specs.List.{range_with_len, list_any, enumerate_from}
 use Rattle.std.proofs.lemmas.Bool.{or_parts, ltb-false}
@@ -15,26 +15,26 @@ use Rattle.pre_bound.specs.declared.rows.HopRow.{HopRow}
 use Rattle.pre_bound.specs.declared.rows.PortRow.{PortRow}
 use Rattle.pre_bound.specs.declared.certificate.Certificate.{Certificate}
 use Rattle.pre_bound.specs.Limits.{limit, ArcIsWithin, PortIsWithin, IsWithin}
-use Rattle.pre_bound.specs.Uses.{TakesAt, has_port, cost_at}
+use Rattle.pre_bound.specs.Uses.{TakesAt, has_port}
 use Rattle.pre_bound.specs.Along.{Delays, route_ticks, hop_ticks, least_block}
-use Rattle.pre_bound.specs.Good.{IsStream, AtPorts, AtStreams}
-use Rattle.pre_bound.specs.Places.{arcs_of, ports_of, streams_of, hops_of}
+use Rattle.pre_bound.specs.Good.{IsStream, AtPorts}
+use Rattle.pre_bound.specs.Places.{arcs_of, ports_of, streams_of}
 use Rattle.pre_bound.specs.Listed.{Says, port_row, hop_row, bound_row}
 use Rattle.pre_bound.specs.Passing.{ticks_before}
 use Rattle.pre_bound.proofs.Hops.{TakesAt-from, has_port-from, contains_at}
 use Rattle.pre_bound.proofs.Placed.{All-filtered, in_range}
 use Rattle.pre_bound.proofs.Ordered.{ticks-suc}
 use Rattle.pre_certify.specs.Loads.{NoOverload}
-use Rattle.pre_certify.specs.Tables.{delays_in, AreWithin}
+use Rattle.pre_certify.specs.Tables.{delays_in}
 use Rattle.pre_certify.specs.Written.{bound_at}
 use Rattle.pre_certify.proofs.Loading.{rates_small}
 use Rattle.pre_certify.proofs.Certified.{each_stream, map_same, All-pieces, pieces_same, All-range, map-map, largest_small, cost_some}
 use Rattle.pre_rounds.specs.Rounds.{Bursts, work_over, delay_over, size_over, port_over, round_bursts, round_values}
-use Rattle.pre_rounds.specs.Passing.{numbers_pass, leaving_passes, passes_over, need_over, is_short}
-use Rattle.pre_rounds.specs.Settling.{IsFirstPort, SettlesAt}
+use Rattle.pre_rounds.specs.Passing.{numbers_pass, leaving_passes, need_over, is_short}
+use Rattle.pre_rounds.specs.Settling.{IsFirstPort}
 use Rattle.pre_rounds.specs.Causes.{round_delays, NoneWide, FirstWide, FirstShort, FirstWideRound}
 use Rattle.pre_rounds.specs.Routed.{AreRouted}
-use Rattle.pre_rounds.specs.Tables.{bursts_in, IsRound, AreDelays, AreSettled}
+use Rattle.pre_rounds.specs.Tables.{bursts_in, AreSettled}
 use Rattle.pre_rounds.specs.Written.{arc_at, hops_at, all_hops}
 use Rattle.pre_rounds.proofs.Same.{delay_over-same, port_over-same, is_short-same, need_over-same}
 use Rattle.pre_rounds.proofs.Places.{first_same}

@@ -5,7 +5,7 @@ use Rattle.pre_streams.specs.declared.rows.Row.{Row}
 use Rattle.pre_bound.specs.Uses.{has_port}
 use Rattle.pre_bound.specs.Good.{AtPorts, AtStreams}
 use Rattle.pre_rounds.specs.Rounds.{Bursts, round_bursts}
-use Rattle.pre_rounds.specs.Passing.{passes_over, some_differs}
+use Rattle.pre_rounds.specs.Passing.{passes_over}
 
 -- the last round that is tried
 abbrev pub last_round : ℕ

@@ -1,4 +1,4 @@
-use Rattle.std.proofs.Common.{ℕ, ◌<◌, ◌≤◌, length}
+use Rattle.std.proofs.Common.{◌<◌, ◌≤◌, length}
 use Rattle.pre_bound.specs.Limits.{limit}
 use Rattle.pre_bound.specs.Good.{AtStreams}
 use Rattle.pre_bound.specs.Passing.{ticks_before}

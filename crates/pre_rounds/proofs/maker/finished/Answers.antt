@@ -1,4 +1,4 @@
-use Rattle.std.proofs.Common.{◌≡◌, List, ℕ, false, sym, subst, ◌∙◌}
+use Rattle.std.proofs.Common.{◌≡◌, List, ℕ, false, sym, subst}
 use Rattle.pre_bound.specs.Good.{AtPorts}
 use Rattle.pre_certify.specs.Tables.{delays_in}
 use Rattle.pre_rounds.specs.Passing.{passes_over, need_over, is_short}

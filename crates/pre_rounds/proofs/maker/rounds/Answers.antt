@@ -1,4 +1,4 @@
-use Rattle.std.proofs.Common.{◌≡◌, ◌∙◌, sym, List, subst}
+use Rattle.std.proofs.Common.{sym, List, subst}
 use Rattle.std.specs.Prelude.{IfOk, IfErr}
 use Rattle.pre_streams.specs.declared.rows.Row.{Row}
 use Rattle.pre_bound.specs.Settled.{PriosBelow}

@@ -1,4 +1,4 @@
-use Rattle.std.proofs.Common.{◌≡◌, List, false, ℕ, ◌/◌, ◌%◌, sym, subst, ◌∙◌, ap, map}
+use Rattle.std.proofs.Common.{◌≡◌, List, false, ℕ, ◌/◌, ◌%◌, sym, subst, map}
 use Rattle.pre_bound.specs.Good.{AtPorts}
 use Rattle.pre_bound.specs.Places.{ports_of, streams_of}
 use Rattle.pre_certify.specs.Tables.{delays_in}

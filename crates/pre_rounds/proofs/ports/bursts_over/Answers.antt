@@ -1,5 +1,4 @@
 use Rattle.std.proofs.Common.{◌∙◌, sym, ap, arith}
-use Rattle.pre_bound.specs.Uses.{hop_of}
 use Rattle.pre_rounds.specs.Tables.{bursts_in}
 use Rattle.pre_rounds.proofs.Numbered.{bursts-yes, bursts-no}
 use Rattle.pre_rounds.proofs.ports.bursts_over.Goals as goal

@@ -1,4 +1,4 @@
-use Rattle.std.proofs.Common.{ℕ, ◌/◌, ◌%◌, ◌<◌, ◌++◌, ◌∷◌, [], sym, ◌∙◌, ap, arith, length, map}
+use Rattle.std.proofs.Common.{ℕ, ◌/◌, ◌%◌, ◌++◌, ◌∷◌, [], sym, ◌∙◌, ap, map}
 use Rattle.std.specs.Prelude.{filter}
 use Rattle.std.specs.List.{range_with_len}
 use Rattle.pre_bound.specs.declared.rows.PortRow.{PortRow}

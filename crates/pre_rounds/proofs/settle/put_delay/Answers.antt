@@ -1,4 +1,4 @@
-use Rattle.std.proofs.Common.{◌∙◌, ◌+◌, sym, ap, subst, arith}
+use Rattle.std.proofs.Common.{◌+◌, sym, ap, subst, arith}
 use Rattle.pre_rounds.specs.Tables.{bursts_in, HaveDelays}
 use Rattle.pre_rounds.proofs.Places.{delays_more}
 use Rattle.pre_rounds.proofs.settle.put_delay.Goals as goal

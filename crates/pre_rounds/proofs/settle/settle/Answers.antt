@@ -1,4 +1,4 @@
-use Rattle.std.proofs.Common.{rules, ◌≡◌, ◌+◌, ◌-◌, ◌*◌, ◌<◌, ℕ, List, false, sym, ◌∙◌, ap, subst, arith, length}
+use Rattle.std.proofs.Common.{rules, ◌≡◌, ◌+◌, ◌-◌, ◌*◌, ℕ, List, false, sym, ◌∙◌, subst, arith, length}
 use Rattle.std.proofs.lemmas.Grind.{common_steps}
 use Rattle.pre_bound.specs.Good.{AtPorts}
 use Rattle.pre_rounds.specs.Rounds.{next_bursts, round_bursts}

@@ -1,9 +1,7 @@
-use Rattle.std.proofs.Common.{◌≡◌, ℕ, ◌+◌, ◌*◌, ◌<◌, length}
-use Rattle.pre_streams.specs.declared.rows.Row.{Row}
-use Rattle.pre_bound.specs.Good.{IsStream}
+use Rattle.std.proofs.Common.{◌≡◌, length}
 use Rattle.pre_certify.specs.Tables.{AreWithin}
 use Rattle.pre_rounds.specs.Rounds.{declared}
-use Rattle.pre_rounds.specs.Tables.{bursts_in, HasBursts}
+use Rattle.pre_rounds.specs.Tables.{HasBursts}
 use Rattle.pre_rounds.proofs.tables.first_table.Given as goal
 
 abbrev pub invariant-loop-place : goal.invariant-loop-place

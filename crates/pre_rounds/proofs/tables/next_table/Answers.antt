@@ -1,4 +1,4 @@
-use Rattle.std.proofs.Common.{◌+◌, rules, sym, ap, subst, arith, length}
+use Rattle.std.proofs.Common.{◌+◌, rules, sym, subst, arith}
 use Rattle.std.proofs.lemmas.List.{length-append}
 use Rattle.pre_certify.specs.Tables.{AreWithin}
 use Rattle.pre_rounds.specs.Rounds.{next_bursts}

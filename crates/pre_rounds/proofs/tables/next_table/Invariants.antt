@@ -1,4 +1,4 @@
-use Rattle.std.proofs.Common.{◌≡◌, ℕ, ◌+◌, ◌*◌, ◌<◌, length}
+use Rattle.std.proofs.Common.{◌≡◌, length}
 use Rattle.pre_certify.specs.Tables.{AreWithin}
 use Rattle.pre_rounds.specs.Rounds.{next_bursts}
 use Rattle.pre_rounds.specs.Tables.{bursts_in, HasBursts}
