@@ -42,12 +42,13 @@ pub record FirstWide (net : Network) (rows : List Row) (delays : Delays) (stream
   pub first_hop : (earlier : ℕ) → earlier < hop → ticks_before net delays row (earlier + 1) ≤ limit
   pub before : AtStreams rows (λ other r. other < stream → ticks_before net delays r (length r.arcs) ≤ limit)
 
+-- so it is in the first settled round
 pub record FirstWideRound (net : Network) (rows : List Row) (stream hop : ℕ) : Type 0 where
   pub round : ℕ
   pub settles : SettlesAt net rows round
   pub here : FirstWide net rows (round_delays net rows round) stream hop
 
--- the first port whose ring has too little room, and the room that it needs, in frames
+-- where that round has no such stream, the first port whose ring has too little room, and the room that it needs, in frames
 pub record FirstShort (net : Network) (rows : List Row) (arc prio need : ℕ) : Type 0 where
   pub round : ℕ
   pub settles : SettlesAt net rows round

@@ -23,12 +23,12 @@ IsSettled net rows round = SameBursts rows (round_bursts net rows (round + 1)) (
 abbrev pub NonePasses : Network → List Row → ℕ → Type 0
 NonePasses net rows round = AtPorts net rows (λ arc prio. passes_over net rows (round_bursts net rows round) arc prio ≡ false)
 
--- the round isn't the last that is looked at
+-- no number of the round passes the limit, and it isn't settled
 pub record GoesOn (net : Network) (rows : List Row) (round : ℕ) : Type 0 where
   pub small : NonePasses net rows round
   pub unsettled : ¬ IsSettled net rows round
 
--- so is each before this one
+-- so it is with each round before this one
 abbrev pub GoOnBefore : Network → List Row → ℕ → Type 0
 GoOnBefore net rows round = (earlier : ℕ) → earlier < round → GoesOn net rows earlier
 
