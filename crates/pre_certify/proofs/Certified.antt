@@ -75,31 +75,31 @@ stream_at rows e c express =
     let number : found.0 ≡ e.0 = omega (arith, found.1) in
     record { row = subst (λ n. slice_get rows n ≡ Some e.1) number found.2; express = express }
 
-each_stream : (rows : List Row) (P : ℕ × Row → Type 0) → ((e : ℕ × Row) → IsStream rows e.0 e.1 → P e) → All P (streams_of rows)
+pub each_stream : (rows : List Row) (P : ℕ × Row → Type 0) → ((e : ℕ × Row) → IsStream rows e.0 e.1 → P e) → All P (streams_of rows)
 each_stream rows P h = All-filtered P (λ e. is_stream e.1) (enumerate_from 0 rows) (λ e c express. h e (stream_at rows e c express))
 
-map_same : {X Y : Type 0} (f g : X → Y) (xs : List X) → All (λ x. f x ≡ g x) xs → map f xs ≡ map g xs
+pub map_same : {X Y : Type 0} (f g : X → Y) (xs : List X) → All (λ x. f x ≡ g x) xs → map f xs ≡ map g xs
 map_same f g [] h = refl
 map_same f g (x ∷ xs) h = ap (λ y. y ∷ map f xs) (All-head (λ z. f z ≡ g z) x xs h) ∙ ap (λ l. g x ∷ l) (map_same f g xs (All-tail (λ z. f z ≡ g z) x xs h))
 
 -- each row of the pieces of a list
-All-pieces : {X A : Type 0} (P : A → Type 0) (f : X → List A) (xs : List X) → All (λ x. All P (f x)) xs → All P (flat_map f xs)
+pub All-pieces : {X A : Type 0} (P : A → Type 0) (f : X → List A) (xs : List X) → All (λ x. All P (f x)) xs → All P (flat_map f xs)
 All-pieces P f [] h = All-nil P
 All-pieces P f (x ∷ xs) h = All-append P (f x) (flat_map f xs) (All-head (λ y. All P (f y)) x xs h) (All-pieces P f xs (All-tail (λ y. All P (f y)) x xs h))
 
-pieces_same : {X A B : Type 0} (f : X → List B) (g : A → B) (h : X → List A) (xs : List X) → All (λ x. f x ≡ map g (h x)) xs → flat_map f xs ≡ map g (flat_map h xs)
+pub pieces_same : {X A B : Type 0} (f : X → List B) (g : A → B) (h : X → List A) (xs : List X) → All (λ x. f x ≡ map g (h x)) xs → flat_map f xs ≡ map g (flat_map h xs)
 pieces_same f g h [] all = refl
 pieces_same f g h (x ∷ xs) all =
     ap (λ l. l ++ flat_map f xs) (All-head (λ y. f y ≡ map g (h y)) x xs all)
     ∙ ap (λ l. map g (h x) ++ l) (pieces_same f g h xs (All-tail (λ y. f y ≡ map g (h y)) x xs all))
     ∙ sym (map-append g (h x) (flat_map h xs))
 
-All-range : (P : ℕ → Type 0) (n : ℕ) → ((k : ℕ) → k < n → P k) → All P (range_with_len 0 n)
+pub All-range : (P : ℕ → Type 0) (n : ℕ) → ((k : ℕ) → k < n → P k) → All P (range_with_len 0 n)
 All-range P n h = λ k d less.
     let inside : k < n = omega (arith, less, length-range_with_len 0 n) in
     subst P (sym (get_or-range_with_len 0 n k d inside)) (h (0 + k) (omega arith))
 
-map-map : {X Y Z : Type 0} (f : Y → Z) (g : X → Y) (xs : List X) → map f (map g xs) ≡ map (λ x. f (g x)) xs
+pub map-map : {X Y Z : Type 0} (f : Y → Z) (g : X → Y) (xs : List X) → map f (map g xs) ≡ map (λ x. f (g x)) xs
 map-map f g [] = refl
 map-map f g (x ∷ xs) = ap (λ l. f (g x) ∷ l) (map-map f g xs)
 
@@ -216,7 +216,7 @@ ranks_few rows round rs none peeled few a =
     ]
 
 -- no arc carries a frame above the limit
-largest_small : (net : Network) (rows : List Row) (a : ℕ) → largest_used net rows a ≤ limit
+pub largest_small : (net : Network) (rows : List Row) (a : ℕ) → largest_used net rows a ≤ limit
 largest_small net rows a = by_cases (has_flow rows a)
   where
     carried : (o : Option Arc) → slice_get net.arcs a ≡ o → option_map_or (λ x. x.largest) o 0 ≤ limit

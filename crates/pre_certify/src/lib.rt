@@ -15,6 +15,12 @@ mod unfit;
 
 pub use certifier::certify;
 pub use laws::refusal_law;
+pub use loads::{
+    burst_of, cost_at, first_overload, has_arc, has_port, hop_of, is_on, rate_of, rates_on,
+};
+pub use ports::{block_octets, delay_at, largest_used, ticks_before};
+pub use rings::ring_at;
+pub use rows::bound_rows;
 pub use text::put_certificate;
 pub use unfit::Unfit;
 

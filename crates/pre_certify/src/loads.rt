@@ -17,15 +17,15 @@ fn takes(row: &Row, arc: ArcId) -> bool
 }
 
 /// Whether the row is a stream on the arc, with a priority from the low one up to below the high one.
-pub(crate) fn is_on(row: &Row, arc: ArcId, low: u8, high: u8) -> bool
+pub fn is_on(row: &Row, arc: ArcId, low: u8, high: u8) -> bool
     ensures { result ≡ is_on arc.0 low high row.now }
 {
     let prio = row.prio.number();
     row.curve.is_some() && low <= prio && prio < high && takes(row, arc)
 }
 
-/// Whether a stream of this priority uses the arc.
-pub(crate) fn has_port(rows: &[Row], arc: ArcId, prio: u8) -> bool
+/// Whether a stream of this priority uses the arc, so that the two are a port.
+pub fn has_port(rows: &[Row], arc: ArcId, prio: u8) -> bool
     requires { prio < 8 }
     ensures { result ≡ has_port rows.now arc.0 prio }
 {
@@ -33,7 +33,7 @@ pub(crate) fn has_port(rows: &[Row], arc: ArcId, prio: u8) -> bool
 }
 
 /// Whether a stream uses the arc.
-pub(crate) fn has_arc(rows: &[Row], arc: ArcId) -> bool
+pub fn has_arc(rows: &[Row], arc: ArcId) -> bool
     ensures { result ≡ has_arc rows.now arc.0 }
 {
     rows.iter().any(|row| is_on(row, arc, 0, 8))
@@ -48,7 +48,7 @@ pub(crate) fn has_flow(rows: &[Row], arc: ArcId) -> bool
 }
 
 /// The hop at which the route takes the arc, and the number of its hops where it doesn't.
-pub(crate) fn hop_of(row: &Row, arc: ArcId) -> usize
+pub fn hop_of(row: &Row, arc: ArcId) -> usize
     ensures hop { result ≡ hop_of arc.0 row.now }
     ensures within { result ≤ length row.now.arcs }
 {
@@ -61,8 +61,8 @@ pub(crate) fn hop_of(row: &Row, arc: ArcId) -> usize
     arcs.len()
 }
 
-/// The rate of a stream, and 0 of a flow.
-pub(crate) fn rate_of(row: &Row) -> u64
+/// The rate of a stream in wire octets for each 1,000,000 ticks, and 0 of a flow.
+pub fn rate_of(row: &Row) -> u64
     ensures rate { result ≡ rate_of row.now }
     ensures within { result ≤ 10 ^ 12 }
 {
@@ -72,8 +72,8 @@ pub(crate) fn rate_of(row: &Row) -> u64
     }
 }
 
-/// The declared burst of a stream, and 0 of a flow.
-pub(crate) fn burst_of(row: &Row) -> u64
+/// The declared burst of a stream in wire octets, and 0 of a flow.
+pub fn burst_of(row: &Row) -> u64
     ensures burst { result ≡ burst_of row.now }
     ensures within { result ≤ 10 ^ 12 }
 {
@@ -84,7 +84,7 @@ pub(crate) fn burst_of(row: &Row) -> u64
 }
 
 /// The sum of the rates of the streams on the arc with priorities from low up to below high.
-pub(crate) fn rates_on(rows: &[Row], arc: ArcId, low: u8, high: u8) -> u64
+pub fn rates_on(rows: &[Row], arc: ArcId, low: u8, high: u8) -> u64
     requires { length rows.now ≤ 512 }
     ensures rates { result ≡ rates_on arc.0 low high rows.now }
     ensures within { result ≤ 512 * 10 ^ 12 }
@@ -98,8 +98,8 @@ pub(crate) fn rates_on(rows: &[Row], arc: ArcId, low: u8, high: u8) -> u64
     rates
 }
 
-/// The ticks that an octet takes on the arc.
-pub(crate) fn cost_at(net: &Network, arc: ArcId) -> u64
+/// The ticks that an octet takes on the arc, and 0 where there is no such arc.
+pub fn cost_at(net: &Network, arc: ArcId) -> u64
     ensures cost { result ≡ cost_at net.now arc.0 }
     ensures within { result ≤ 1000 }
     ensures some { arc.0 < length net.now.arcs → 1 ≤ result }
@@ -119,7 +119,7 @@ fn is_overloaded(net: &Network, rows: &[Row], arc: ArcId) -> bool
 }
 
 /// The least arc whose streams want all of its time.
-pub(crate) fn first_overload(net: &Network, rows: &[Row]) -> Option<ArcId>
+pub fn first_overload(net: &Network, rows: &[Row]) -> Option<ArcId>
     requires { length rows.now ≤ 512 }
     ensures found { IfSome result (λ a. FirstOverload net.now rows.now a.0) }
     ensures none { IfNone result (NoOverload net.now rows.now) }

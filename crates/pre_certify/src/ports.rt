@@ -15,8 +15,8 @@ use pre_bound::{Certificate, PortRow, grown, hop_delay, queue_size};
 use pre_streams::Row;
 use pre_topo::{Arc, Mode, Network, Policy};
 
-/// The delay of a port, from the table of eight for each arc.
-pub(crate) fn delay_at(delays: &[u64], arc: ArcId, prio: Prio) -> u64
+/// The delay of a port in ticks, from the table of eight for each arc.
+pub fn delay_at(delays: &[u64], arc: ArcId, prio: Prio) -> u64
     requires { AreWithin delays.now }
     ensures delay { result ≡ delays_in delays.now arc.0 prio }
     ensures within { result ≤ 10 ^ 12 }
@@ -92,7 +92,7 @@ pub(crate) fn largest_at(net: &Network, arc: ArcId) -> u64
 }
 
 /// The same, and 0 where no flow uses the arc.
-pub(crate) fn largest_used(net: &Network, rows: &[Row], arc: ArcId) -> u64
+pub fn largest_used(net: &Network, rows: &[Row], arc: ArcId) -> u64
     ensures largest { result ≡ largest_used net.now rows.now arc.0 }
     ensures within { result ≤ 65535 }
 {
@@ -139,7 +139,7 @@ fn preemptable_at(net: &Network, rows: &[Row], arc: ArcId) -> u64
 }
 
 /// The octets of the longest one thing that can hold the arc before a priority.
-fn block_octets(net: &Network, rows: &[Row], arc: ArcId, prio: u8) -> u64
+pub fn block_octets(net: &Network, rows: &[Row], arc: ArcId, prio: u8) -> u64
     ensures octets { result ≡ block_octets net.now rows.now arc.0 prio }
     ensures within { result ≤ 10 ^ 5 }
 {
@@ -176,7 +176,7 @@ fn hop_ticks(net: &Network, arc: ArcId, delay: u64) -> u64
 }
 
 /// The ticks of a stream's hops before this one: None exactly where they pass the limit.
-pub(crate) fn ticks_before(net: &Network, delays: &[u64], row: &Row, hop: usize) -> Option<u64>
+pub fn ticks_before(net: &Network, delays: &[u64], row: &Row, hop: usize) -> Option<u64>
     requires delays { AreWithin delays.now }
     requires hop { hop ≤ length row.now.arcs }
     ensures { SomeIff result (ticks_before net.now (delays_in delays.now) row.now hop ≤ 10 ^ 12) (ticks_before net.now (delays_in delays.now) row.now hop) }

@@ -18,7 +18,7 @@ use pre_streams::Row;
 use pre_topo::Network;
 
 /// The capacity of the arc's ring of a priority, in frames.
-fn ring_at(net: &Network, arc: ArcId, prio: u8) -> u64
+pub fn ring_at(net: &Network, arc: ArcId, prio: u8) -> u64
     requires { prio < 8 }
     ensures { result ≡ ring_at net.now arc.0 prio }
 {

@@ -136,8 +136,8 @@ pub(crate) fn hop_rows(
     Ok(found)
 }
 
-/// The bounds of all streams.
-pub(crate) fn bound_rows(
+/// The bounds of all streams in ticks, over a table of delays by which none passes 10^12.
+pub fn bound_rows(
     alloc: Global,
     net: &Network,
     rows: &[Row],

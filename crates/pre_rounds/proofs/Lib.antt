@@ -1,0 +1,13 @@
+pub mod Numbered
+pub mod Same
+pub mod Places
+pub mod Settled
+pub mod Filling
+pub mod Stepping
+pub mod Routes
+pub mod Writing
+pub mod Good
+pub mod Least
+pub mod AtMost
+pub mod Alone
+pub mod Completed
