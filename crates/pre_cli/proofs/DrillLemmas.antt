@@ -156,6 +156,8 @@ module _ (number : ℕ) (x : Drill number) (c : Certificate) (least : IsLeastRan
   flushed_leaves status.Words a b d within took ends = absurd ends
   flushed_leaves (status.Rejected clause row) a b d within took ends = absurd ends
   flushed_leaves (status.Unruly line) a b d within took ends = absurd ends
+  flushed_leaves (status.Unsettled arc prio) a b d within took ends = absurd ends
+  flushed_leaves status.NoArc a b d within took ends = absurd ends
   flushed_leaves (status.Alias arc ordinal) a b d within took ends = absurd ends
 
 pub flushed_cause : (number : ℕ) (x : Drill number) (s : Status) (before between now : ℕ) (a b : Option Taken) → IsDrilled x → before ≤ between → IsFlushed s a b → (s ≡ status.WriteFault → Rose between now)
@@ -170,6 +172,8 @@ flushed_cause number x status.Memory before between now a b drilled later ends r
 flushed_cause number x status.Words before between now a b drilled later ends rose = absurd ends
 flushed_cause number x (status.Rejected clause row) before between now a b drilled later ends rose = absurd ends
 flushed_cause number x (status.Unruly line) before between now a b drilled later ends rose = absurd ends
+flushed_cause number x (status.Unsettled arc prio) before between now a b drilled later ends rose = absurd ends
+flushed_cause number x status.NoArc before between now a b drilled later ends rose = absurd ends
 flushed_cause number x (status.Alias arc ordinal) before between now a b drilled later ends rose = absurd ends
 
 -- a refusal of the certifier is answered with its cause

@@ -67,6 +67,8 @@ refused_network status.Memory t net_word streams_word o told tells p cause = inr
 refused_network status.Words t net_word streams_word o told tells p cause = absurd cause
 refused_network (status.Rejected clause row) t net_word streams_word o told tells p cause = absurd cause
 refused_network (status.Unruly line) t net_word streams_word o told tells p cause = absurd cause
+refused_network (status.Unsettled arc prio) t net_word streams_word o told tells p cause = absurd cause
+refused_network status.NoArc t net_word streams_word o told tells p cause = absurd cause
 refused_network (status.Alias arc ordinal) t net_word streams_word o told tells p cause = absurd cause
 
 -- ---- a network's text that isn't there
@@ -97,4 +99,6 @@ missing_network (status.Unfit u) net_word streams_word o told tells none cause =
 missing_network status.Words net_word streams_word o told tells none cause = absurd cause
 missing_network (status.Rejected clause row) net_word streams_word o told tells none cause = absurd cause
 missing_network (status.Unruly line) net_word streams_word o told tells none cause = absurd cause
+missing_network (status.Unsettled arc prio) net_word streams_word o told tells none cause = absurd cause
+missing_network status.NoArc net_word streams_word o told tells none cause = absurd cause
 missing_network (status.Alias arc ordinal) net_word streams_word o told tells none cause = absurd cause

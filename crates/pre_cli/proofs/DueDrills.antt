@@ -68,6 +68,8 @@ module _ (one : (n : ℕ) (net other : Network) (streams others : Streams) (scri
     drill_runs (status.Rules kind row rule) t before now good to cause = absurd cause
     drill_runs (status.Rejected clause row) t before now good to cause = absurd cause
     drill_runs (status.Unruly line) t before now good to cause = absurd cause
+    drill_runs (status.Unsettled arc prio) t before now good to cause = absurd cause
+    drill_runs status.NoArc t before now good to cause = absurd cause
 
     module _ (e : Unfit) (not : e ≢ unfit.Memory) (why : causes.Cause x.net x.streams.rows e) where
       none : HasLeast x.net x.streams → ⊥
@@ -89,3 +91,5 @@ module _ (one : (n : ℕ) (net other : Network) (streams others : Streams) (scri
       drill_refuses (status.Rules kind row rule) before now cause = absurd cause
       drill_refuses (status.Rejected clause row) before now cause = absurd cause
       drill_refuses (status.Unruly line) before now cause = absurd cause
+      drill_refuses (status.Unsettled arc prio) before now cause = absurd cause
+      drill_refuses status.NoArc before now cause = absurd cause

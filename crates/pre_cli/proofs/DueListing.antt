@@ -42,6 +42,8 @@ missing_packets status.Memory name o told tells missing cause = inr refl
 missing_packets status.Words name o told tells missing cause = absurd cause
 missing_packets (status.Rejected clause row) name o told tells missing cause = absurd cause
 missing_packets (status.Unruly line) name o told tells missing cause = absurd cause
+missing_packets (status.Unsettled arc prio) name o told tells missing cause = absurd cause
+missing_packets status.NoArc name o told tells missing cause = absurd cause
 missing_packets (status.Alias arc ordinal) name o told tells missing cause = absurd cause
 missing_packets (status.Rules kind row rule) name o told tells missing cause = absurd cause
 missing_packets (status.Unfit unfit) name o told tells missing cause = absurd cause
@@ -57,6 +59,8 @@ pub packets_answer : (s : Status) (name : List ℕ) (fault : Option (ℕ × ℕ)
 packets_answer status.Words name fault o tells cause = absurd cause
 packets_answer (status.Rejected clause row) name fault o tells cause = absurd cause
 packets_answer (status.Unruly line) name fault o tells cause = absurd cause
+packets_answer (status.Unsettled arc prio) name fault o tells cause = absurd cause
+packets_answer status.NoArc name fault o tells cause = absurd cause
 packets_answer (status.Alias arc ordinal) name fault o tells cause = absurd cause
 packets_answer (status.Rules kind row rule) name fault o tells cause = absurd cause
 packets_answer (status.Unfit unfit) name fault o tells cause = absurd cause

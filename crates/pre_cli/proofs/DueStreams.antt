@@ -105,6 +105,8 @@ module _ (net_word streams_word : List ℕ) (o : Outside) (told : Told) (tells :
     missing_streams status.Words cause = absurd cause
     missing_streams (status.Rejected clause row) cause = absurd cause
     missing_streams (status.Unruly line) cause = absurd cause
+    missing_streams (status.Unsettled arc prio) cause = absurd cause
+    missing_streams status.NoArc cause = absurd cause
     missing_streams (status.Alias arc ordinal) cause = absurd cause
 
   -- ---- streams that are refused
@@ -132,6 +134,8 @@ module _ (net_word streams_word : List ℕ) (o : Outside) (told : Told) (tells :
     refused_as_due status.Words cause = absurd cause
     refused_as_due (status.Rejected clause row) cause = absurd cause
     refused_as_due (status.Unruly line) cause = absurd cause
+    refused_as_due (status.Unsettled arc prio) cause = absurd cause
+    refused_as_due status.NoArc cause = absurd cause
     refused_as_due (status.Alias arc ordinal) cause = absurd cause
 
   -- ---- both are read
@@ -165,6 +169,8 @@ module _ (net_word streams_word : List ℕ) (o : Outside) (told : Told) (tells :
     due_for_both status.Words cause = absurd cause
     due_for_both (status.Rejected clause row) cause = absurd cause
     due_for_both (status.Unruly line) cause = absurd cause
+    due_for_both (status.Unsettled arc prio) cause = absurd cause
+    due_for_both status.NoArc cause = absurd cause
     due_for_both (status.Alias arc ordinal) cause = absurd cause
 
     pub good_is_certified : HasGood net streams → (s : Status) → CertifyingCause s net_word streams_word o → IsCertified o s ⊎ GivesUp o s

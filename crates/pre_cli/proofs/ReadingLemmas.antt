@@ -83,6 +83,8 @@ text_instead R gone status.WriteFault before now a b f may cause = absurd cause
 text_instead R gone (status.Unfit u) before now a b f may cause = absurd cause
 text_instead R gone (status.Rejected clause row) before now a b f may cause = absurd cause
 text_instead R gone (status.Unruly line) before now a b f may cause = absurd cause
+text_instead R gone (status.Unsettled arc prio) before now a b f may cause = absurd cause
+text_instead R gone status.NoArc before now a b f may cause = absurd cause
 text_instead R gone (status.Alias arc ordinal) before now a b f may cause = absurd cause
 
 -- ---- what isn't written
@@ -98,6 +100,8 @@ IsInstead (status.Rules kind row rule) = Unit {0}
 IsInstead (status.Unfit u) = Unit {0}
 IsInstead (status.Rejected clause row) = Unit {0}
 IsInstead (status.Unruly line) = Unit {0}
+IsInstead (status.Unsettled arc prio) = ⊥
+IsInstead status.NoArc = Unit {0}
 IsInstead (status.Alias arc ordinal) = ⊥
 IsInstead status.Memory = Unit {0}
 
@@ -116,6 +120,8 @@ text_refusing status.WriteFault is = absurd is
 text_refusing (status.Unfit u) is = absurd is
 text_refusing (status.Rejected clause row) is = absurd is
 text_refusing (status.Unruly line) is = absurd is
+text_refusing (status.Unsettled arc prio) is = absurd is
+text_refusing status.NoArc is = absurd is
 text_refusing (status.Alias arc ordinal) is = absurd is
 
 pub then_refusing : {X Y : Type 0} (A : Reading X) (B : X → Reading Y) → Refusing A → ((x : X) → Refusing (B x)) → Refusing (then_read A B)
@@ -179,6 +185,8 @@ flushed_ends (status.Rules kind row rule) text a b d took ends = absurd ends
 flushed_ends (status.Unfit u) text a b d took ends = absurd ends
 flushed_ends (status.Rejected clause row) text a b d took ends = absurd ends
 flushed_ends (status.Unruly line) text a b d took ends = absurd ends
+flushed_ends (status.Unsettled arc prio) text a b d took ends = absurd ends
+flushed_ends status.NoArc text a b d took ends = absurd ends
 flushed_ends (status.Alias arc ordinal) text a b d took ends = absurd ends
 
 pub flushed_cause : (s : Status) (before between now : ℕ) (a b : Option Taken) → before ≤ between → between ≤ now → IsFlushed s a b → (s ≡ status.WriteFault → Rose between now) → PutCause s before now
@@ -192,4 +200,6 @@ flushed_cause (status.Rules kind row rule) before between now a b sooner later e
 flushed_cause (status.Unfit u) before between now a b sooner later ends rose = absurd ends
 flushed_cause (status.Rejected clause row) before between now a b sooner later ends rose = absurd ends
 flushed_cause (status.Unruly line) before between now a b sooner later ends rose = absurd ends
+flushed_cause (status.Unsettled arc prio) before between now a b sooner later ends rose = absurd ends
+flushed_cause status.NoArc before between now a b sooner later ends rose = absurd ends
 flushed_cause (status.Alias arc ordinal) before between now a b sooner later ends rose = absurd ends

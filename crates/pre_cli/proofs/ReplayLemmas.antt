@@ -117,6 +117,8 @@ module _ (words : ReplayWords) (o : Outside) where
     run_cause (status.Unfit u) cause = absurd cause
     run_cause (status.Rejected clause row) cause = absurd cause
     run_cause (status.Unruly line) cause = absurd cause
+    run_cause (status.Unsettled arc prio) cause = absurd cause
+    run_cause status.NoArc cause = absurd cause
     run_cause (status.Form kind line rule) cause = absurd cause
 
     -- of the trace the headline holds
@@ -156,4 +158,6 @@ module _ (words : ReplayWords) (o : Outside) where
       run_leaves (status.Unfit u) ends = absurd ends
       run_leaves (status.Rejected clause row) ends = absurd ends
       run_leaves (status.Unruly line) ends = absurd ends
+      run_leaves (status.Unsettled arc prio) ends = absurd ends
+      run_leaves status.NoArc ends = absurd ends
       run_leaves (status.Form kind line rule) ends = absurd ends

@@ -54,6 +54,8 @@ DrillingCause number (status.Form kind line rule) before now = ⊥
 DrillingCause number (status.Rules kind row rule) before now = ⊥
 DrillingCause number (status.Rejected clause row) before now = ⊥
 DrillingCause number (status.Unruly line) before now = ⊥
+DrillingCause number (status.Unsettled arc prio) before now = ⊥
+DrillingCause number status.NoArc before now = ⊥
 
 -- ---- what the sink took
 
@@ -91,6 +93,8 @@ DrillingLeaves number (status.Form kind line rule) old new = new ≡ old
 DrillingLeaves number (status.Rules kind row rule) old new = new ≡ old
 DrillingLeaves number (status.Rejected clause row) old new = new ≡ old
 DrillingLeaves number (status.Unruly line) old new = new ≡ old
+DrillingLeaves number (status.Unsettled arc prio) old new = new ≡ old
+DrillingLeaves number status.NoArc old new = new ≡ old
 
 -- ---- what is due
 

@@ -68,6 +68,8 @@ abbrev pub ListingCause : Status → List ℕ → Outside → Type 0
 ListingCause status.Words name o = ⊥
 ListingCause (status.Rejected clause row) name o = ⊥
 ListingCause (status.Unruly line) name o = ⊥
+ListingCause (status.Unsettled arc prio) name o = ⊥
+ListingCause status.NoArc name o = ⊥
 ListingCause (status.Alias arc ordinal) name o = ⊥
 ListingCause (status.Rules kind row rule) name o = ⊥
 ListingCause (status.Unfit unfit) name o = ⊥

@@ -32,6 +32,8 @@ number_of (status.Rejected clause row) = 7
 number_of (status.Unruly line) = 8
 number_of (status.Alias arc ordinal) = 9
 number_of status.Memory = 10
+number_of (status.Unsettled arc prio) = 12
+number_of status.NoArc = 13
 
 abbrev pub file_word : FileWord → List ℕ
 file_word file.Net = codes "net"
@@ -39,6 +41,7 @@ file_word file.Streams = codes "streams"
 file_word file.Cert = codes "cert"
 file_word file.Script = codes "script"
 file_word file.Mpackets = codes "mpackets"
+file_word file.Pcap = codes "pcap"
 
 -- a number behind a space
 abbrev pub behind_space : ℕ → List ℕ
@@ -81,3 +84,5 @@ text_of (status.Rejected clause row) = codes "rejected" ++ (behind_space clause 
 text_of (status.Unruly line) = codes "unruly" ++ behind_space line
 text_of (status.Alias arc ordinal) = codes "alias" ++ (behind_space arc.0 ++ behind_space ordinal)
 text_of status.Memory = codes "memory"
+text_of (status.Unsettled arc prio) = codes "unsettled" ++ (behind_space arc.0 ++ behind_space prio)
+text_of status.NoArc = codes "no arc"

@@ -18,6 +18,7 @@ fn rules_word(file: FileWord) -> &'static [u8]
         FileWord::Cert => b"rules cert",
         FileWord::Script => b"rules script",
         FileWord::Mpackets => b"rules mpackets",
+        FileWord::Pcap => b"rules pcap",
     }
 }
 
@@ -148,4 +149,13 @@ pub(crate) fn put_alias<S: Sink>(sink: &mut S, arc: u64, ordinal: u64) -> Result
 {
     write_all(sink, b"alias")?;
     put_place(sink, arc, ordinal)
+}
+
+/// Writes the port behind which bursts still grow.
+pub(crate) fn put_unsettled<S: Sink>(sink: &mut S, arc: u64, prio: u64) -> Result<(), Failed>
+    ensures octets { WhereTold (S.tells sink.old) (S.tells sink.new) (TakesAll result (codes "unsettled" ++ (behind_space arc ++ behind_space prio))) }
+    ensures cause { HasCause (S.faults sink.old) (S.faults sink.new) result }
+{
+    write_all(sink, b"unsettled")?;
+    put_place(sink, arc, prio)
 }

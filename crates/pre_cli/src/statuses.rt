@@ -4,8 +4,8 @@ ghost use Rattle.pre_base.specs.Told.{WhereTold};
 ghost use Rattle.pre_base.specs.Sinks.{TakesAll};
 ghost use Rattle.pre_cli.specs.Statuses.{number_of, file_word, behind_space, text_of, usage};
 
-use crate::refusals::{put_alias, put_rejected, put_rules, put_unfit, put_unruly};
-use pre_base::{ArcId, Failed, FileRow, Sink, write_all};
+use crate::refusals::{put_alias, put_rejected, put_rules, put_unfit, put_unruly, put_unsettled};
+use pre_base::{ArcId, Failed, FileRow, Prio, Sink, write_all};
 use pre_certify::Unfit;
 use pre_text::put_number;
 
@@ -17,6 +17,7 @@ pub enum FileWord {
     Cert,
     Script,
     Mpackets,
+    Pcap,
 }
 
 /// What a command came to.
@@ -60,6 +61,13 @@ pub enum Status {
     },
     /// Want of memory.
     Memory,
+    /// The routes of the streams have a cycle, and the bursts still grow after the last round: the first port behind which they do.
+    Unsettled {
+        arc: ArcId,
+        prio: Prio,
+    },
+    /// No arc of the network has the name.
+    NoArc,
 }
 
 impl Status {
@@ -81,6 +89,8 @@ impl Status {
             Status::Rejected { .. } => 7,
             Status::Unruly { .. } => 8,
             Status::Alias { .. } => 9,
+            Status::Unsettled { .. } => 12,
+            Status::NoArc => 13,
         }
     }
 }
@@ -94,6 +104,7 @@ fn form_word(file: FileWord) -> &'static [u8]
         FileWord::Cert => b"form cert",
         FileWord::Script => b"form script",
         FileWord::Mpackets => b"form mpackets",
+        FileWord::Pcap => b"form pcap",
     }
 }
 
@@ -149,5 +160,7 @@ pub fn put_status<S: Sink>(status: &Status, sink: &mut S) -> Result<(), Failed>
         Status::Unruly { line } => put_unruly(sink, *line),
         Status::Alias { arc, ordinal } => put_alias(sink, arc.0 as u64, *ordinal),
         Status::Memory => write_all(sink, b"memory"),
+        Status::Unsettled { arc, prio } => put_unsettled(sink, arc.0 as u64, prio.number() as u64),
+        Status::NoArc => write_all(sink, b"no arc"),
     }
 }
