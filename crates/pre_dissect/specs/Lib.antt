@@ -1,0 +1,3 @@
+pub mod PacketWords
+pub mod Dissections
+pub mod Answers
