@@ -6,7 +6,7 @@ use Rattle.pre_history.specs.Legal.{Legal, FirstAliasAt}
 use Rattle.pre_cli.specs.declared.statuses.Status.{Status}
 use Rattle.pre_cli.specs.declared.statuses.Status.TheVariants as status
 use Rattle.pre_cli.specs.Answers.{Outside}
-use Rattle.pre_cli.specs.Commands.{Command, certifies, lists, judges, migrates, replays, drills, unknown, command_of, CauseBy, CauseOf}
+use Rattle.pre_cli.specs.Commands.{Command, certifies, lists, judges, migrates, replays, drills, dissects, unknown, command_of, CauseBy, CauseOf}
 use Rattle.pre_cli.specs.Judging.{judging}
 use Rattle.pre_cli.specs.Replaying.{RunsTo, replaying, scenario_in}
 use Rattle.pre_cli.proofs.JudgeLemmas.{judging_refusing}
@@ -39,6 +39,7 @@ only_unknown (judges words) o cause = absurd (no_words (judging words) (λ x s. 
 only_unknown (migrates words) o cause = absurd (no_words (judging words) (λ x s. s ≡ status.Done) o (judging_refusing words) (λ x e. not_done e) cause)
 only_unknown (replays words) o cause = absurd (no_words (replaying words) (λ x s. RunsTo (scenario_in x) s) o (replaying_refusing words) (λ x ends. runs_to_no_words (scenario_in x) ends) cause)
 only_unknown (drills number) o cause = absurd cause
+only_unknown (dissects name) o cause = absurd cause
 only_unknown unknown o cause = refl
 
 pub known_words : (words : List (List ℕ)) (o : Outside) → CauseOf status.Words words o → command_of words ≡ unknown

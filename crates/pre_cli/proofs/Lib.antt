@@ -23,4 +23,6 @@ pub mod HeadlineLemmas
 pub mod DueReplaying
 pub mod Replayeds
 pub mod DrillLemmas
+pub mod DissectLemmas
+pub mod DueDissections
 pub mod DueDrills

@@ -12,6 +12,7 @@ use Rattle.pre_cli.specs.Replaying.{ReplayingCause, ReplayingLeaves}
 use Rattle.pre_cli.specs.Readings.{AnswerCause, AnswerLeaves}
 use Rattle.pre_cli.specs.Judging.{judging, Accepts, AcceptsFront, Migrates, MigratesFront}
 use Rattle.pre_cli.specs.Drilling.{DrillingCause, DrillingLeaves}
+use Rattle.pre_cli.specs.Dissecting.{DissectingCause, DissectingLeaves}
 use Rattle.pre_cli.specs.Listed.{ListingCause, ListingLeaves}
 use Rattle.pre_cli.specs.Certifying.{CertifyingCause, CertifyingLeaves}
 
@@ -23,6 +24,7 @@ pub data Command : Type 0 where
   migrates : JudgeWords → Command
   replays : ReplayWords → Command
   drills : ℕ → Command
+  dissects : List ℕ → Command
   unknown : Command
 
 -- a drill has a plain number up to 999,999,999
@@ -32,7 +34,7 @@ drilling None = unknown
 
 -- what a command's name and the words behind it ask for, by their number
 abbrev pub with_one : List ℕ → List ℕ → Command
-with_one name word = if bytes_eq name (codes "mpackets") then lists word else if bytes_eq name (codes "drill") then drilling (number_of word) else unknown
+with_one name word = if bytes_eq name (codes "mpackets") then lists word else if bytes_eq name (codes "drill") then drilling (number_of word) else if bytes_eq name (codes "dissect") then dissects word else unknown
 
 abbrev pub with_two : List ℕ → List ℕ → List ℕ → Command
 with_two name net streams = if bytes_eq name (codes "certify") then certifies net streams else unknown
@@ -58,6 +60,7 @@ command_asked (asked.Judges net streams certificate) = judges (judge_words net.n
 command_asked (asked.Migrates net streams certificate) = migrates (judge_words net.now streams.now certificate.now)
 command_asked (asked.Replays net streams certificate script) = replays (replay_words net.now streams.now certificate.now script.now)
 command_asked (asked.Drills number) = drills number
+command_asked (asked.Dissects file) = dissects file.now
 command_asked asked.Unknown = unknown
 
 -- the cause of each answer, by the command
@@ -68,6 +71,7 @@ CauseBy (judges words) s o = AnswerCause (judging words) s o
 CauseBy (migrates words) s o = AnswerCause (judging words) s o
 CauseBy (replays words) s o = ReplayingCause words s o
 CauseBy (drills number) s o = DrillingCause number s o.sink_before o.sink_after
+CauseBy (dissects name) s o = DissectingCause s name o
 CauseBy unknown s o = s ≡ status.Words
 
 abbrev pub CauseOf : Status → List (List ℕ) → Outside → Type 0
@@ -81,6 +85,7 @@ LeavesBy (judges words) s o = AnswerLeaves (judging words) Accepts AcceptsFront 
 LeavesBy (migrates words) s o = AnswerLeaves (judging words) Migrates MigratesFront s o
 LeavesBy (replays words) s o = ReplayingLeaves words s o
 LeavesBy (drills number) s o = DrillingLeaves number s o.taken_before o.taken_after
+LeavesBy (dissects name) s o = DissectingLeaves s name o
 LeavesBy unknown s o = o.taken_after ≡ o.taken_before
 
 abbrev pub LeavesOf : Status → List (List ℕ) → Outside → Type 0

@@ -17,6 +17,7 @@ pub mod Headline
 pub mod Replaying
 pub mod DueListings
 pub mod DueCertificates
+pub mod Dissecting
 pub mod Sums
 pub mod Drilling
 pub mod Commands

@@ -70,7 +70,7 @@ unfit_text unfit.Memory = codes "memory"
 
 -- the answer for wrong words
 unfoldable pub usage : List ℕ
-usage = codes "usage: preempt certify, judge, migrate, replay, mpackets or drill"
+usage = codes "usage: preempt certify, judge, migrate, replay, mpackets, drill or dissect"
 
 abbrev pub text_of : Status → List ℕ
 text_of status.Done = []

@@ -38,6 +38,10 @@ pub(crate) enum Asked<'a> {
     Drills {
         number: u64,
     },
+    /// `dissect FILE`
+    Dissects {
+        file: &'a str,
+    },
     /// The words have none of these forms.
     Unknown,
 }
@@ -62,6 +66,7 @@ pub(crate) fn command_of(words: &[String]) -> Asked<'_>
     match words {
         [command, file] if command.as_str() == "mpackets" => Asked::Lists { file },
         [command, word] if command.as_str() == "drill" => drilling(word),
+        [command, file] if command.as_str() == "dissect" => Asked::Dissects { file },
         [command, net, streams] if command.as_str() == "certify" => {
             Asked::Certifies { net, streams }
         }

@@ -5,6 +5,8 @@ mod certifying;
 mod certifying_laws;
 mod commands;
 mod curves;
+mod dissecting;
+mod dissecting_laws;
 mod drilling;
 mod drilling_laws;
 mod judging;
@@ -19,6 +21,7 @@ mod replays;
 mod statuses;
 
 pub use certifying_laws::due_certificates;
+pub use dissecting_laws::due_dissections;
 pub use drilling_laws::due_drills;
 pub use judging_laws::due_verdicts;
 pub use laws::{due_answers, headline, one_trace};

@@ -4,6 +4,7 @@ ghost use Rattle.pre_cli.specs.Commands.{CauseOf, LeavesOf};
 use crate::Status;
 use crate::certifying::certify_files;
 use crate::commands::{Asked, command_of};
+use crate::dissecting::dissect_file;
 use crate::drilling::drill;
 use crate::judging::{judge_files, migrate_files};
 use crate::listings::list_file;
@@ -15,9 +16,9 @@ use std::alloc::Global;
 /// writes the least certificate of the streams over the network; `judge NET STREAMS CERT` writes `accepted` where the
 /// certificate is good for them, and `migrate NET STREAMS CERT` writes it anew; `replay NET STREAMS CERT SCRIPT` runs the
 /// script over these, where the certificate is good and the sends keep to their curves, and writes the trace; `mpackets FILE`
-/// writes a line for each mPacket of the file, with what it gives to one receiver; and `drill N` makes the large plant of
-/// the number N, certifies it, runs its script and writes the summary of the run. In the place of NET or STREAMS the word
-/// `pair` stands for a built-in text.
+/// writes a line for each mPacket of the file, with what it gives to one receiver; `drill N` makes the large plant of the
+/// number N, certifies it, runs its script and writes the summary of the run; and `dissect FILE` writes a line for each record
+/// of a capture file. In the place of NET or STREAMS the word `pair` stands for a built-in text.
 ///
 /// Each answer has its cause, and no two causes hold together; only want of memory is free. Files are read and tested one
 /// by one, in the order of the words, before anything is written. Where the answer is Done, the sink took the whole of the
@@ -78,6 +79,7 @@ pub fn preempt<H: Shelf, S: Sink>(
             script,
         } => replay_files(alloc, net, streams, certificate, script, shelf, sink),
         Asked::Drills { number } => drill(alloc, number, sink),
+        Asked::Dissects { file } => dissect_file(alloc, file, shelf, sink),
         Asked::Unknown => Status::Words,
     }
 }

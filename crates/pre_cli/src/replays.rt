@@ -67,7 +67,7 @@ pub(crate) fn run<S: Sink>(
 }
 
 /// Passes on what was written: the status given, or that the sink failed.
-fn flushed<S: Sink>(sink: &mut S, status: Status) -> Status
+pub(crate) fn flushed<S: Sink>(sink: &mut S, status: Status) -> Status
     ensures { FlushEnds status result (S.tells sink.old) (S.tells sink.new) (S.faults sink.old) (S.faults sink.new) }
 {
     match sink.flush() {
