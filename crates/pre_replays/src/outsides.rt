@@ -34,7 +34,7 @@ fn the_flush_fails(rt: HostRuntime) -> Result<(), Fail> {
 #[test]
 fn wrong_words(rt: HostRuntime) -> Result<(), Fail> {
     let alloc = rt.alloc();
-    let usage = "usage: preempt certify, judge, migrate, replay, mpackets or drill";
+    let usage = "usage: preempt certify, judge, migrate, replay, mpackets, drill or dissect";
     for text in [
         "",
         "replay",
@@ -46,6 +46,7 @@ fn wrong_words(rt: HostRuntime) -> Result<(), Fail> {
         "migrate pair pair cert script",
         "drill",
         "drill 1 2",
+        "dissect",
         "drill 01",
         "drill x",
         "drill 1000000000",
