@@ -1,13 +1,13 @@
 -- A dissection grows by a line for each record.
-use Rattle.std.proofs.Common.{◌≡◌, ℕ, zero, suc, ◌+◌, ◌<◌, ◌≤◌, ◌⊎◌, List, [], ◌∷◌, ◌++◌, length, Option, Some, None, Result, Ok, Err, refl, sym, ◌∙◌, ap, subst, inl, inr, arith, append_assoc, length-append}
-use Rattle.std.specs.Prelude.{◌↔◌, slice_get, map}
+use Rattle.std.proofs.Common.{◌≡◌, ℕ, suc, ◌+◌, ◌<◌, List, [], ◌∷◌, ◌++◌, length, Option, Some, None, Result, Ok, Err, refl, sym, ◌∙◌, ap, subst, inl, inr, arith, append_assoc, length-append}
+use Rattle.std.specs.Prelude.{◌↔◌}
 use Rattle.std.specs.Result.{IsErr, IsErrAnd}
 use Rattle.std.proofs.lemmas.Bool.{false≢true}
 use Rattle.std.proofs.lemmas.List.{append-nil, length-map}
 use Rattle.pre_base.specs.Told.{WhereTold, WhereTold-join, WhereTold-map}
 use Rattle.pre_base.specs.Sinks.{Taken}
 use Rattle.pre_base.specs.Pieces.{TakesWhole, TakesFront}
-use Rattle.pre_history.proofs.Lists.{at_end, there, within, at_front, at_last}
+use Rattle.pre_history.proofs.Lists.{at_end, within}
 use Rattle.pre_pcap.specs.declared.reading.Capture.{Capture}
 use Rattle.pre_pcap.specs.declared.reading.Record as declared
 use Rattle.pre_pcap.specs.Views.{packet_record}

@@ -1,4 +1,4 @@
-//! Captures of mPackets: what a run puts on one arc as a capture file, and what the records of such a file give to one receiver.
+//! Captures of mPackets: what the records of a capture file give to one receiver.
 #![tactic(auto)]
 
 mod dissecting;
@@ -7,3 +7,6 @@ mod lines;
 
 pub use dissecting::dissect;
 pub use faults::DissectFault;
+
+#[cfg(test)]
+mod tests;

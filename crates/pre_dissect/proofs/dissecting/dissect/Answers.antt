@@ -1,7 +1,4 @@
-use Rattle.std.proofs.Common.{rules, ◌≡◌, ◌≤◌, ℕ, ◌+◌, ◌<◌, length, inr}
-use Rattle.pre_pcap.specs.declared.faults.PcapFault.{PcapFault}
-use Rattle.pre_pcap.specs.Captures.{IsFirstFault, octets_left}
-use Rattle.pre_dissect.specs.Answers.{HasCause, IsDue, Leaves}
+use Rattle.std.proofs.Common.{rules, inr}
 use Rattle.pre_dissect.proofs.Dissected.{later, goes_on, breaks, lent_one, lent_none, fault_due, failed_leaves}
 use Rattle.pre_dissect.proofs.dissecting.dissect.Goals as goal
 
