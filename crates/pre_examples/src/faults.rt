@@ -128,7 +128,7 @@ fn each_call_of_the_shelf_fails_once(rt: HostRuntime) -> Result<(), Fail> {
                 assert_eq!(rt; status.number(), 0, "{command}");
                 break;
             }
-            failed += 1;
+            failed = failed.saturating_add(1);
             assert_eq!(rt; status.number(), 2, "{command}, call {call}");
             assert!(rt; sink.octets().is_empty());
         }
@@ -151,7 +151,7 @@ fn each_call_of_the_sink_fails_once(rt: HostRuntime) -> Result<(), Fail> {
                 assert_eq!(rt; status.number(), 0, "{command}");
                 break;
             }
-            failed += 1;
+            failed = failed.saturating_add(1);
             assert_eq!(rt; status.number(), 3, "{command}, call {call}");
             assert!(rt; text.octets().starts_with(sink.octets()));
         }
