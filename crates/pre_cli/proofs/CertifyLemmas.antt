@@ -210,14 +210,6 @@ fault_cause (rounds.Ring arc prio need) s net streams before now cycle cause alo
     subst (λ (t : Status). CertifiedCause t net streams before now) (sym answer) (inr (fault_at (rounds.Ring arc prio need) (status.Unfit (unfit.Ring arc prio need)) net streams cycle (λ e. cc) cause alone refl))
 fault_cause rounds.Memory s net streams before now cycle cause alone answer = subst (λ (t : Status). CertifiedCause t net streams before now) (sym answer) tt
 
-pub fault_leaves : (e : RoundsFault) (s : Status) (rows : List Row) (net : Network) (streams : Streams) (a : Option Taken) → IsAnswerTo e rows s → CertifiedLeaves s net streams a a
-fault_leaves (rounds.Overload arc) s rows net streams a answer = subst (λ (t : Status). CertifiedLeaves t net streams a a) (sym answer) refl
-fault_leaves (rounds.Large arc prio) s rows net streams a answer = subst (λ (t : Status). CertifiedLeaves t net streams a a) (sym answer) refl
-fault_leaves (rounds.Unsettled arc prio) s rows net streams a answer = subst (λ (t : Status). CertifiedLeaves t net streams a a) (sym answer) refl
-fault_leaves (rounds.Wide stream hop) s rows net streams a (arc, prio, at, is) = subst (λ (t : Status). CertifiedLeaves t net streams a a) (sym is) refl
-fault_leaves (rounds.Ring arc prio need) s rows net streams a answer = subst (λ (t : Status). CertifiedLeaves t net streams a a) (sym answer) refl
-fault_leaves rounds.Memory s rows net streams a answer = subst (λ (t : Status). CertifiedLeaves t net streams a a) (sym answer) refl
-
 pub unfit_leaves : (u : Unfit) (net : Network) (streams : Streams) (a : Option Taken) → CertifiedLeaves (unfit_status u) net streams a a
 unfit_leaves (unfit.Overload arc) net streams a = refl
 unfit_leaves (unfit.Cycle arcs) net streams a = refl
