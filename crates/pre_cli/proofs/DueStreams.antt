@@ -1,5 +1,5 @@
 -- The cause of an answer leaves no other, where a network is read.
-use Rattle.std.proofs.Common.{◌≡◌, ◌≢◌, ◌⊎◌, inl, inr, ℕ, List, Some, None, refl, sym, ◌∙◌, ap, subst, map}
+use Rattle.std.proofs.Common.{◌≡◌, ◌≢◌, ◌⊎◌, inl, inr, ℕ, List, Some, None, refl, sym, ◌∙◌, ap, subst, map, false}
 use Rattle.std.proofs.lemmas.Option.{none-some}
 use Rattle.pre_base.specs.Shelves.{Told, Files}
 use Rattle.pre_topo.specs.declared.network.Network.{Network}
@@ -198,7 +198,7 @@ module _ (net_word streams_word : List ℕ) (o : Outside) (told : Told) (tells :
         elim (cycle.cycle.alone.others e why) [
           | inl memory ↦ not memory
           | inr (inl same) ↦ true_false (ap names_cycle same ∙ plain)
-          | inr (inr (yes, also)) ↦ true_false (sym also ∙ plain)
+          | inr (inr (named, also)) ↦ true_false (sym also ∙ plain)
         ]
 
     not_plain : (arcs : List ArcId) (u : Unfit) → causes.Cause net streams.rows (unfit.Cycle arcs) → names_cycle u ≡ false → UnfitCause u net streams → ⊥
@@ -206,7 +206,7 @@ module _ (net_word streams_word : List ℕ) (o : Outside) (told : Told) (tells :
         elim (refused.alone.others (unfit.Cycle arcs) why) [
           | inl memory ↦ cycle_memory arcs memory
           | inr (inl same) ↦ true_false (sym (ap names_cycle same) ∙ plain)
-          | inr (inr (yes, also)) ↦ true_false (sym yes ∙ plain)
+          | inr (inr (named, also)) ↦ true_false (sym named ∙ plain)
         ]
 
     pub refusal_is_due : (e : Unfit) → e ≢ unfit.Memory → names_cycle e ≡ false → causes.Cause net streams.rows e → (s : Status) → CertifyingCause s net_word streams_word o → RefusesAs e s ⊎ GivesUp o s
