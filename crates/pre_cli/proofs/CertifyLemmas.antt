@@ -13,6 +13,7 @@ use Rattle.pre_topo.specs.declared.network.Network.{Network}
 use Rattle.pre_topo.specs.declared.faults.TopoFault.{TopoFault}
 use Rattle.pre_topo.specs.declared.faults.TopoFault.TheVariants as topo
 use Rattle.pre_topo.specs.NetworkOf as networks
+use Rattle.pre_streams.specs.declared.rows.Row.{Row}
 use Rattle.pre_streams.specs.declared.rows.Streams.{Streams}
 use Rattle.pre_streams.specs.declared.faults.StreamFault.{StreamFault}
 use Rattle.pre_streams.specs.declared.faults.StreamFault.TheVariants as stream
@@ -21,7 +22,11 @@ use Rattle.pre_bound.specs.declared.certificate.Certificate.{Certificate}
 use Rattle.pre_certify.specs.declared.unfit.Unfit.{Unfit}
 use Rattle.pre_certify.specs.declared.unfit.Unfit.TheVariants as unfit
 use Rattle.pre_certify.specs.Causes.{Cause}
-use Rattle.pre_certify.specs.Refusals.{NoneRefuses, IsAlone}
+use Rattle.pre_certify.specs.Refusals.{IsAlone, names_cycle}
+use Rattle.pre_rounds.specs.declared.faults.RoundsFault.{RoundsFault}
+use Rattle.pre_rounds.specs.declared.faults.RoundsFault.TheVariants as rounds
+use Rattle.pre_rounds.specs.Causes as of_rounds
+use Rattle.pre_rounds.specs.Answers as rounds_answers
 use Rattle.pre_certify.specs.Text.{certificate_text}
 use Rattle.pre_cli.specs.declared.statuses.FileWord.{FileWord}
 use Rattle.pre_cli.specs.declared.statuses.FileWord.TheVariants as file
@@ -30,7 +35,7 @@ use Rattle.pre_cli.specs.declared.statuses.Status.TheVariants as status
 use Rattle.pre_cli.specs.Scripts.{max_file}
 use Rattle.pre_cli.specs.Answers.{Outside}
 use Rattle.pre_cli.specs.Listed.{IsFlushed}
-use Rattle.pre_cli.specs.Certifying.{IsLeastRanked, text_named, IsTextIn, OfFiles, IsGone, IsFileIn, IsNoFile, IsLongFile, topo_status, stream_status, IsLong, IsNetIn, NetRefused, AreStreamsIn, StreamsRefused, InPlace, pair_network, pair_streams, unfit_status, UnfitCause, CertifiedCause, TakesFlushed, CertifiedLeaves, AreBothIn, RefusedIn, GoneIn, CertifyingCause, CertifyingLeaves}
+use Rattle.pre_cli.specs.Certifying.{text_named, IsTextIn, OfFiles, IsGone, IsFileIn, IsNoFile, IsLongFile, topo_status, stream_status, IsLong, IsNetIn, NetRefused, AreStreamsIn, StreamsRefused, InPlace, pair_network, pair_streams, unfit_status, UnfitCause, HaveCycle, HasCertificate, IsLeastOfBoth, IsAnswerTo, RoundsCause, RefusalCause, HasNone, CertifiedCause, TakesFlushed, CertifiedLeaves, AreBothIn, RefusedIn, GoneIn, CertifyingCause, CertifyingLeaves}
 
 -- ---- told values
 
@@ -161,16 +166,49 @@ streams_refused stream.Memory word text net before now a b due is = tt
 
 -- ---- the certificate
 
-alone_at : (u : Unfit) (net : Network) (streams : Streams) → u ≢ unfit.Memory → Cause net streams.rows u → (u ≡ unfit.Memory) ⊎ IsAlone net streams u → UnfitCause u net streams
+pub alone_at : (u : Unfit) (net : Network) (streams : Streams) → u ≢ unfit.Memory → Cause net streams.rows u → (u ≡ unfit.Memory) ⊎ IsAlone net streams u → UnfitCause u net streams
 alone_at u net streams refusal cause (inl memory) = absurd (refusal memory)
 alone_at u net streams refusal cause (inr alone) = record { refusal = refusal; here = cause; alone = alone }
 
-pub unfit_cause : (u : Unfit) (net : Network) (streams : Streams) (before now : ℕ) → Cause net streams.rows u → (u ≡ unfit.Memory) ⊎ IsAlone net streams u → CertifiedCause (unfit_status u) net streams before now
-unfit_cause (unfit.Overload arc) net streams before now cause alone = alone_at (unfit.Overload arc) net streams (λ e. cc) cause alone
-unfit_cause (unfit.Cycle arcs) net streams before now cause alone = alone_at (unfit.Cycle arcs) net streams (λ e. cc) cause alone
-unfit_cause (unfit.Large arc prio) net streams before now cause alone = alone_at (unfit.Large arc prio) net streams (λ e. cc) cause alone
-unfit_cause (unfit.Ring arc prio need) net streams before now cause alone = alone_at (unfit.Ring arc prio need) net streams (λ e. cc) cause alone
-unfit_cause unfit.Memory net streams before now cause alone = tt
+pub true_false : true ≡ false → ⊥
+true_false e = cc
+
+pub false_true : false ≡ true → ⊥
+false_true e = cc
+
+pub unfit_cause : (u : Unfit) (net : Network) (streams : Streams) (before now : ℕ) → names_cycle u ≡ false → Cause net streams.rows u → (u ≡ unfit.Memory) ⊎ IsAlone net streams u → CertifiedCause (unfit_status u) net streams before now
+unfit_cause (unfit.Overload arc) net streams before now plain cause alone = inl (plain, alone_at (unfit.Overload arc) net streams (λ e. cc) cause alone)
+unfit_cause (unfit.Cycle arcs) net streams before now plain cause alone = absurd (true_false plain)
+unfit_cause (unfit.Large arc prio) net streams before now plain cause alone = inl (plain, alone_at (unfit.Large arc prio) net streams (λ e. cc) cause alone)
+unfit_cause (unfit.Ring arc prio need) net streams before now plain cause alone = inl (plain, alone_at (unfit.Ring arc prio need) net streams (λ e. cc) cause alone)
+unfit_cause unfit.Memory net streams before now plain cause alone = tt
+
+pub have_cycle : (u : Unfit) (net : Network) (streams : Streams) → names_cycle u ≡ true → Cause net streams.rows u → (u ≡ unfit.Memory) ⊎ IsAlone net streams u → HaveCycle net streams
+have_cycle (unfit.Overload arc) net streams names cause alone = absurd (false_true names)
+have_cycle (unfit.Cycle arcs) net streams names cause alone = record { arcs = arcs; cycle = alone_at (unfit.Cycle arcs) net streams (λ e. cc) cause alone }
+have_cycle (unfit.Large arc prio) net streams names cause alone = absurd (false_true names)
+have_cycle (unfit.Ring arc prio need) net streams names cause alone = absurd (false_true names)
+have_cycle unfit.Memory net streams names cause alone = absurd (false_true names)
+
+fault_at : (e : RoundsFault) (s : Status) (net : Network) (streams : Streams) → HaveCycle net streams → e ≢ rounds.Memory → of_rounds.Cause net streams.rows e → (e ≡ rounds.Memory) ⊎ rounds_answers.IsAlone net streams.rows e
+    → IsAnswerTo e streams.rows s → RoundsCause s net streams
+fault_at e s net streams cycle refusal cause (inl memory) answer = absurd (refusal memory)
+fault_at e s net streams cycle refusal cause (inr alone) answer = record { cycle = cycle; fault = e; refusal = refusal; here = cause; alone = alone; answer = answer }
+
+-- the answer to a fault of the rounds has its cause
+pub fault_cause : (e : RoundsFault) (s : Status) (net : Network) (streams : Streams) (before now : ℕ) → HaveCycle net streams → of_rounds.Cause net streams.rows e → (e ≡ rounds.Memory) ⊎ rounds_answers.IsAlone net streams.rows e
+    → IsAnswerTo e streams.rows s → CertifiedCause s net streams before now
+fault_cause (rounds.Overload arc) s net streams before now cycle cause alone answer =
+    subst (λ (t : Status). CertifiedCause t net streams before now) (sym answer) (inr (fault_at (rounds.Overload arc) (status.Unfit (unfit.Overload arc)) net streams cycle (λ e. cc) cause alone refl))
+fault_cause (rounds.Large arc prio) s net streams before now cycle cause alone answer =
+    subst (λ (t : Status). CertifiedCause t net streams before now) (sym answer) (inr (fault_at (rounds.Large arc prio) (status.Unfit (unfit.Large arc prio)) net streams cycle (λ e. cc) cause alone refl))
+fault_cause (rounds.Unsettled arc prio) s net streams before now cycle cause alone answer =
+    subst (λ (t : Status). CertifiedCause t net streams before now) (sym answer) (fault_at (rounds.Unsettled arc prio) (status.Unsettled arc prio) net streams cycle (λ e. cc) cause alone refl)
+fault_cause (rounds.Wide stream hop) s net streams before now cycle cause alone (arc, prio, at, is) =
+    subst (λ (t : Status). CertifiedCause t net streams before now) (sym is) (inr (fault_at (rounds.Wide stream hop) (status.Unfit (unfit.Large arc prio)) net streams cycle (λ e. cc) cause alone (arc, prio, at, refl)))
+fault_cause (rounds.Ring arc prio need) s net streams before now cycle cause alone answer =
+    subst (λ (t : Status). CertifiedCause t net streams before now) (sym answer) (inr (fault_at (rounds.Ring arc prio need) (status.Unfit (unfit.Ring arc prio need)) net streams cycle (λ e. cc) cause alone refl))
+fault_cause rounds.Memory s net streams before now cycle cause alone answer = subst (λ (t : Status). CertifiedCause t net streams before now) (sym answer) tt
 
 pub unfit_leaves : (u : Unfit) (net : Network) (streams : Streams) (a : Option Taken) → CertifiedLeaves (unfit_status u) net streams a a
 unfit_leaves (unfit.Overload arc) net streams a = refl
@@ -180,7 +218,7 @@ unfit_leaves (unfit.Ring arc prio need) net streams a = refl
 unfit_leaves unfit.Memory net streams a = refl
 
 -- the certificate was written whole, and then passed on or not
-pub flushed_leaves : (s : Status) (net : Network) (streams : Streams) (k : Certificate) (a b c : Option Taken) → IsLeastRanked net streams k → WhereTold a b (TakesWhole (certificate_text net streams.rows k)) → IsFlushed s b c → CertifiedLeaves s net streams a c
+pub flushed_leaves : (s : Status) (net : Network) (streams : Streams) (k : Certificate) (a b c : Option Taken) → IsLeastOfBoth net streams k → WhereTold a b (TakesWhole (certificate_text net streams.rows k)) → IsFlushed s b c → CertifiedLeaves s net streams a c
 flushed_leaves status.Done net streams k a b c least took ends =
     (k, least, WhereTold-join a b c _ _ (TakesFlushed (certificate_text net streams.rows k)) (λ x y z p q. (q.0 ∙ p, q.1)) took ends)
 flushed_leaves status.WriteFault net streams k a b c least took ends =
@@ -197,21 +235,21 @@ flushed_leaves (status.Unsettled arc prio) net streams k a b c least took ends =
 flushed_leaves status.NoArc net streams k a b c least took ends = absurd ends
 flushed_leaves (status.Alias arc ordinal) net streams k a b c least took ends = absurd ends
 
-pub flushed_cause : (s : Status) (net : Network) (streams : Streams) (k : Certificate) (before between now : ℕ) (a b : Option Taken) → IsLeastRanked net streams k → NoneRefuses net streams.rows → before ≤ between → IsFlushed s a b → (s ≡ status.WriteFault → Rose between now)
+pub flushed_cause : (s : Status) (net : Network) (streams : Streams) (before between now : ℕ) (a b : Option Taken) → HasCertificate net streams → before ≤ between → IsFlushed s a b → (s ≡ status.WriteFault → Rose between now)
     → CertifiedCause s net streams before now
-flushed_cause status.Done net streams k before between now a b least none later ends rose = record { certificate = k; least = least; none = none }
-flushed_cause status.WriteFault net streams k before between now a b least none later ends rose = (omega (arith, later, rose refl), record { certificate = k; least = least; none = none })
-flushed_cause status.ReadFault net streams k before between now a b least none later ends rose = absurd ends
-flushed_cause (status.Form kind line rule) net streams k before between now a b least none later ends rose = absurd ends
-flushed_cause (status.Rules kind row rule) net streams k before between now a b least none later ends rose = absurd ends
-flushed_cause (status.Unfit u) net streams k before between now a b least none later ends rose = absurd ends
-flushed_cause status.Memory net streams k before between now a b least none later ends rose = absurd ends
-flushed_cause status.Words net streams k before between now a b least none later ends rose = absurd ends
-flushed_cause (status.Rejected clause row) net streams k before between now a b least none later ends rose = absurd ends
-flushed_cause (status.Unruly line) net streams k before between now a b least none later ends rose = absurd ends
-flushed_cause (status.Unsettled arc prio) net streams k before between now a b least none later ends rose = absurd ends
-flushed_cause status.NoArc net streams k before between now a b least none later ends rose = absurd ends
-flushed_cause (status.Alias arc ordinal) net streams k before between now a b least none later ends rose = absurd ends
+flushed_cause status.Done net streams before between now a b has later ends rose = has
+flushed_cause status.WriteFault net streams before between now a b has later ends rose = (omega (arith, later, rose refl), has)
+flushed_cause status.ReadFault net streams before between now a b has later ends rose = absurd ends
+flushed_cause (status.Form kind line rule) net streams before between now a b has later ends rose = absurd ends
+flushed_cause (status.Rules kind row rule) net streams before between now a b has later ends rose = absurd ends
+flushed_cause (status.Unfit u) net streams before between now a b has later ends rose = absurd ends
+flushed_cause status.Memory net streams before between now a b has later ends rose = absurd ends
+flushed_cause status.Words net streams before between now a b has later ends rose = absurd ends
+flushed_cause (status.Rejected clause row) net streams before between now a b has later ends rose = absurd ends
+flushed_cause (status.Unruly line) net streams before between now a b has later ends rose = absurd ends
+flushed_cause (status.Unsettled arc prio) net streams before between now a b has later ends rose = absurd ends
+flushed_cause status.NoArc net streams before between now a b has later ends rose = absurd ends
+flushed_cause (status.Alias arc ordinal) net streams before between now a b has later ends rose = absurd ends
 
 -- ---- the command
 
@@ -267,17 +305,22 @@ pub both_in : (net_word streams_word : List ℕ) (net : Network) (streams : Stre
     → WhereTold a c (OfFiles (AreBothIn net_word streams_word net streams))
 both_in net_word streams_word net streams a b c = of_both a b c (IsNetIn net_word net) (AreStreamsIn streams_word net streams) (AreBothIn net_word streams_word net streams) (λ files p q. (p, q))
 
+refused_none : (u : Unfit) (net : Network) (streams : Streams) → RefusalCause u net streams → HasNone (status.Unfit u) net streams
+refused_none u net streams (inl (plain, cause)) = inl (u, plain, cause, refl)
+refused_none u net streams (inr cause) = inr cause
+
 pub certified_cause : (s : Status) (net_word streams_word : List ℕ) (net : Network) (streams : Streams) (o : Outside) → WhereTold o.told_before o.told_after (OfFiles (AreBothIn net_word streams_word net streams))
     → CertifiedCause s net streams o.sink_before o.sink_after → CertifyingCause s net_word streams_word o
 certified_cause status.Done net_word streams_word net streams o read cause = (net, streams, read, cause)
 certified_cause status.WriteFault net_word streams_word net streams o read cause = (cause.0, (net, streams, read, cause.1))
 certified_cause (status.Unfit u) net_word streams_word net streams o read cause =
-    of_more o.told_before o.told_after (AreBothIn net_word streams_word net streams) (RefusedIn net_word streams_word (status.Unfit u)) (λ files p. inr (inr (net, streams, p, (u, cause, refl)))) read
+    of_more o.told_before o.told_after (AreBothIn net_word streams_word net streams) (RefusedIn net_word streams_word (status.Unfit u)) (λ files p. inr (inr (net, streams, p, refused_none u net streams cause))) read
 certified_cause status.Memory net_word streams_word net streams o read cause = tt
 certified_cause status.Words net_word streams_word net streams o read cause = absurd cause
 certified_cause (status.Rejected clause row) net_word streams_word net streams o read cause = absurd cause
 certified_cause (status.Unruly line) net_word streams_word net streams o read cause = absurd cause
-certified_cause (status.Unsettled arc prio) net_word streams_word net streams o read cause = absurd cause
+certified_cause (status.Unsettled arc prio) net_word streams_word net streams o read cause =
+    of_more o.told_before o.told_after (AreBothIn net_word streams_word net streams) (RefusedIn net_word streams_word (status.Unsettled arc prio)) (λ files p. inr (inr (net, streams, p, inr cause))) read
 certified_cause status.NoArc net_word streams_word net streams o read cause = absurd cause
 certified_cause (status.Alias arc ordinal) net_word streams_word net streams o read cause = absurd cause
 certified_cause status.ReadFault net_word streams_word net streams o read cause = absurd cause

@@ -45,7 +45,7 @@ use Rattle.pre_cli.specs.declared.statuses.Status.TheVariants as status
 use Rattle.pre_cli.specs.Certifying.{IsLeastRanked, unfit_status}
 use Rattle.pre_cli.specs.Drilling.{Drill, scenario, IsDrilled, DrillingCause, Drilled, DrilledFront, DrillingLeaves}
 use Rattle.pre_cli.specs.Listed.{IsFlushed}
-use Rattle.pre_cli.proofs.CertifyLemmas.{unfit_cause}
+use Rattle.pre_cli.proofs.CertifyLemmas.{alone_at}
 use Rattle.pre_cli.proofs.CurveLemmas.{at_lt}
 
 -- ---- a run that is summed up
@@ -178,8 +178,8 @@ flushed_cause number x (status.Alias arc ordinal) before between now a b drilled
 
 -- a refusal of the certifier is answered with its cause
 pub refused_cause : (number : ℕ) (x : Drill number) (u : Unfit) (before now : ℕ) → Cause x.net x.streams.rows u → (u ≡ unfit.Memory) ⊎ IsAlone x.net x.streams u → DrillingCause number (unfit_status u) before now
-refused_cause number x (unfit.Overload arc) before now cause alone = (x, unfit_cause (unfit.Overload arc) x.net x.streams before now cause alone)
-refused_cause number x (unfit.Cycle arcs) before now cause alone = (x, unfit_cause (unfit.Cycle arcs) x.net x.streams before now cause alone)
-refused_cause number x (unfit.Large arc prio) before now cause alone = (x, unfit_cause (unfit.Large arc prio) x.net x.streams before now cause alone)
-refused_cause number x (unfit.Ring arc prio need) before now cause alone = (x, unfit_cause (unfit.Ring arc prio need) x.net x.streams before now cause alone)
+refused_cause number x (unfit.Overload arc) before now cause alone = (x, alone_at (unfit.Overload arc) x.net x.streams (λ e. cc) cause alone)
+refused_cause number x (unfit.Cycle arcs) before now cause alone = (x, alone_at (unfit.Cycle arcs) x.net x.streams (λ e. cc) cause alone)
+refused_cause number x (unfit.Large arc prio) before now cause alone = (x, alone_at (unfit.Large arc prio) x.net x.streams (λ e. cc) cause alone)
+refused_cause number x (unfit.Ring arc prio need) before now cause alone = (x, alone_at (unfit.Ring arc prio need) x.net x.streams (λ e. cc) cause alone)
 refused_cause number x unfit.Memory before now cause alone = tt

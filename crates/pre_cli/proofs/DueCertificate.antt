@@ -63,11 +63,12 @@ refused_network (status.Rules kind row rule) t net_word streams_word o told tell
     inl (refused_one net_word streams_word (status.Rules kind row rule) t told.files p (told_as o told (OfFiles (RefusedIn net_word streams_word (status.Rules kind row rule))) tells cause).1.0)
 refused_network (status.Unfit u) t net_word streams_word o told tells p cause =
     inl (refused_one net_word streams_word (status.Unfit u) t told.files p (told_as o told (OfFiles (RefusedIn net_word streams_word (status.Unfit u))) tells cause).1.0)
+refused_network (status.Unsettled arc prio) t net_word streams_word o told tells p cause =
+    inl (refused_one net_word streams_word (status.Unsettled arc prio) t told.files p (told_as o told (OfFiles (RefusedIn net_word streams_word (status.Unsettled arc prio))) tells cause).1.0)
 refused_network status.Memory t net_word streams_word o told tells p cause = inr (inl refl)
 refused_network status.Words t net_word streams_word o told tells p cause = absurd cause
 refused_network (status.Rejected clause row) t net_word streams_word o told tells p cause = absurd cause
 refused_network (status.Unruly line) t net_word streams_word o told tells p cause = absurd cause
-refused_network (status.Unsettled arc prio) t net_word streams_word o told tells p cause = absurd cause
 refused_network status.NoArc t net_word streams_word o told tells p cause = absurd cause
 refused_network (status.Alias arc ordinal) t net_word streams_word o told tells p cause = absurd cause
 
@@ -96,9 +97,10 @@ missing_network (status.Rules kind row rule) net_word streams_word o told tells 
     absurd (none_refused net_word streams_word (status.Rules kind row rule) told.files none (told_as o told (OfFiles (RefusedIn net_word streams_word (status.Rules kind row rule))) tells cause).1.0)
 missing_network (status.Unfit u) net_word streams_word o told tells none cause =
     absurd (none_refused net_word streams_word (status.Unfit u) told.files none (told_as o told (OfFiles (RefusedIn net_word streams_word (status.Unfit u))) tells cause).1.0)
+missing_network (status.Unsettled arc prio) net_word streams_word o told tells none cause =
+    absurd (none_refused net_word streams_word (status.Unsettled arc prio) told.files none (told_as o told (OfFiles (RefusedIn net_word streams_word (status.Unsettled arc prio))) tells cause).1.0)
 missing_network status.Words net_word streams_word o told tells none cause = absurd cause
 missing_network (status.Rejected clause row) net_word streams_word o told tells none cause = absurd cause
 missing_network (status.Unruly line) net_word streams_word o told tells none cause = absurd cause
-missing_network (status.Unsettled arc prio) net_word streams_word o told tells none cause = absurd cause
 missing_network status.NoArc net_word streams_word o told tells none cause = absurd cause
 missing_network (status.Alias arc ordinal) net_word streams_word o told tells none cause = absurd cause

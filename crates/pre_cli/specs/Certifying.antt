@@ -1,5 +1,5 @@
 -- What the command that certifies reads, answers and leaves.
-use Rattle.std.specs.Prelude.{◌≡◌, ◌≢◌, ◌⊎◌, ℕ, ◌<◌, ◌≤◌, List, ◌++◌, length, map, codes, Option, Some, None, Ok, Err, true, if◌then◌else◌}
+use Rattle.std.specs.Prelude.{◌≡◌, ◌≢◌, ◌⊎◌, ℕ, ◌<◌, ◌≤◌, List, ◌++◌, length, map, slice_get, codes, Option, Some, None, Ok, Err, true, false, if◌then◌else◌}
 use Rattle.std.specs.Str.{bytes_eq}
 use Rattle.std.specs.FinMap.{get}
 use Rattle.pre_base.specs.Faults.{Rose}
@@ -7,24 +7,32 @@ use Rattle.pre_base.specs.Told.{WhereTold}
 use Rattle.pre_base.specs.Shelves.{Told, Files, IsMissing}
 use Rattle.pre_base.specs.Sinks.{Taken}
 use Rattle.pre_base.specs.Pieces.{TakesFront}
+use Rattle.pre_base.specs.declared.numbers.ArcId.{ArcId}
 use Rattle.pre_base.specs.declared.numbers.FileRow.TheVariants.{Top}
 use Rattle.pre_topo.specs.declared.network.Network.{Network}
 use Rattle.pre_topo.specs.declared.faults.TopoFault.{TopoFault}
 use Rattle.pre_topo.specs.declared.faults.TopoFault.TheVariants as topo
 use Rattle.pre_topo.specs.NetworkOf.{network_of, parts_of}
+use Rattle.pre_streams.specs.declared.rows.Row.{Row}
 use Rattle.pre_streams.specs.declared.rows.Streams.{Streams}
 use Rattle.pre_streams.specs.declared.faults.StreamFault.{StreamFault}
 use Rattle.pre_streams.specs.declared.faults.StreamFault.TheVariants as stream
 use Rattle.pre_streams.specs.StreamsOf.{streams_of}
 use Rattle.pre_streams.specs.Made.{row_parts}
 use Rattle.pre_bound.specs.declared.certificate.Certificate.{Certificate}
+use Rattle.pre_bound.specs.Good.{IsStream}
 use Rattle.pre_bound.specs.Listed.{HasRanks}
 use Rattle.pre_bound.specs.Least.{Least}
 use Rattle.pre_certify.specs.declared.unfit.Unfit.{Unfit}
 use Rattle.pre_certify.specs.declared.unfit.Unfit.TheVariants as unfit
 use Rattle.pre_certify.specs.Causes.{Cause}
-use Rattle.pre_certify.specs.Refusals.{NoneRefuses, IsAlone}
+use Rattle.pre_certify.specs.Refusals.{NoneRefuses, IsAlone, names_cycle}
 use Rattle.pre_certify.specs.Text.{certificate_text}
+use Rattle.pre_rounds.specs.declared.faults.RoundsFault.{RoundsFault}
+use Rattle.pre_rounds.specs.declared.faults.RoundsFault.TheVariants as rounds
+use Rattle.pre_rounds.specs.Causes as of_rounds
+use Rattle.pre_rounds.specs.Answers.{IsOfSettled, HasNoRanks, NoneCaused}
+use Rattle.pre_rounds.specs.Answers as rounds_answers
 use Rattle.pre_cli.specs.declared.statuses.FileWord.{FileWord}
 use Rattle.pre_cli.specs.declared.statuses.FileWord.TheVariants as file
 use Rattle.pre_cli.specs.declared.statuses.Status.{Status}
@@ -164,15 +172,78 @@ pub record UnfitCause (cause : Unfit) (net : Network) (streams : Streams) : Type
   pub here : Cause net streams.rows cause
   pub alone : IsAlone net streams cause
 
+-- ---- where routes go round, certificates have no ranks
+
+-- the routes of the streams have a cycle, and that alone refuses a certificate with ranks
+pub record HaveCycle (net : Network) (streams : Streams) : Type 0 where
+  pub arcs : List ArcId
+  pub cycle : UnfitCause (unfit.Cycle arcs) net streams
+
+-- the certificate has no ranks, is the least one without them, and has the numbers of the first settled round
+pub record IsLeastUnranked (net : Network) (streams : Streams) (c : Certificate) : Type 0 where
+  pub least : Least net streams c
+  pub unranked : HasNoRanks c
+  pub settled : IsOfSettled net streams.rows c
+
+-- the routes have a cycle, there is such a certificate, and no fault of the rounds has a cause
+pub record HasLeastUnranked (net : Network) (streams : Streams) : Type 0 where
+  pub cycle : HaveCycle net streams
+  pub certificate : Certificate
+  pub least : IsLeastUnranked net streams certificate
+  pub none : NoneCaused net streams.rows
+
+-- the port at a hop of a stream's route
+pub record IsPortAt (rows : List Row) (stream hop : ℕ) (arc : ArcId) (prio : ℕ) : Type 0 where
+  pub row : Row
+  pub is : IsStream rows stream row
+  pub arc_is : slice_get row.arcs hop ≡ Some arc
+  pub prio_is : prio ≡ row.prio
+
+-- the answer to a fault of the rounds: a bound that passes the limit is told by the port at which it does
+abbrev pub IsAnswerTo : RoundsFault → List Row → Status → Type 0
+IsAnswerTo (rounds.Overload arc) rows s = s ≡ status.Unfit (unfit.Overload arc)
+IsAnswerTo (rounds.Large arc prio) rows s = s ≡ status.Unfit (unfit.Large arc prio)
+IsAnswerTo (rounds.Unsettled arc prio) rows s = s ≡ status.Unsettled arc prio
+IsAnswerTo (rounds.Wide stream hop) rows s = (arc : ArcId) × (prio : ℕ) × IsPortAt rows stream.0 hop arc prio × (s ≡ status.Unfit (unfit.Large arc prio))
+IsAnswerTo (rounds.Ring arc prio need) rows s = s ≡ status.Unfit (unfit.Ring arc prio need)
+IsAnswerTo rounds.Memory rows s = s ≡ status.Memory
+
+-- the routes have a cycle; a fault of the rounds has a cause, no other has, and this is the answer to it
+pub record RoundsCause (s : Status) (net : Network) (streams : Streams) : Type 0 where
+  pub cycle : HaveCycle net streams
+  pub fault : RoundsFault
+  pub refusal : fault ≢ rounds.Memory
+  pub here : of_rounds.Cause net streams.rows fault
+  pub alone : rounds_answers.IsAlone net streams.rows fault
+  pub answer : IsAnswerTo fault streams.rows s
+
+-- ---- with ranks or without
+
+-- the least certificate with ranks, or where the routes have a cycle the least one without them
+abbrev pub IsLeastOfBoth : Network → Streams → Certificate → Type 0
+IsLeastOfBoth net streams c = IsLeastRanked net streams c ⊎ (HaveCycle net streams × IsLeastUnranked net streams c)
+
+-- there is one
+abbrev pub HasCertificate : Network → Streams → Type 0
+HasCertificate net streams = HasLeast net streams ⊎ HasLeastUnranked net streams
+
+-- a refusal has its cause, but a cycle; or the routes have a cycle, and a fault of the rounds has its cause
+abbrev pub RefusalCause : Unfit → Network → Streams → Type 0
+RefusalCause cause net streams = ((names_cycle cause ≡ false) × UnfitCause cause net streams) ⊎ RoundsCause (status.Unfit cause) net streams
+
+-- there is no certificate, and this is the answer
+abbrev pub HasNone : Status → Network → Streams → Type 0
+HasNone s net streams = ((cause : Unfit) × (names_cycle cause ≡ false) × UnfitCause cause net streams × (s ≡ status.Unfit cause)) ⊎ RoundsCause s net streams
+
 abbrev pub CertifiedCause : Status → Network → Streams → ℕ → ℕ → Type 0
-CertifiedCause status.Done net streams before now = HasLeast net streams
-CertifiedCause status.WriteFault net streams before now = Rose before now × HasLeast net streams
-CertifiedCause (status.Unfit cause) net streams before now = UnfitCause cause net streams
+CertifiedCause status.Done net streams before now = HasCertificate net streams
+CertifiedCause status.WriteFault net streams before now = Rose before now × HasCertificate net streams
+CertifiedCause (status.Unfit cause) net streams before now = RefusalCause cause net streams
 CertifiedCause status.Memory net streams before now = Unit {0}
 CertifiedCause status.Words net streams before now = ⊥
 CertifiedCause (status.Rejected clause row) net streams before now = ⊥
 CertifiedCause (status.Unruly line) net streams before now = ⊥
-CertifiedCause (status.Unsettled arc prio) net streams before now = ⊥
+CertifiedCause (status.Unsettled arc prio) net streams before now = RoundsCause (status.Unsettled arc prio) net streams
 CertifiedCause status.NoArc net streams before now = ⊥
 CertifiedCause (status.Alias arc ordinal) net streams before now = ⊥
 CertifiedCause status.ReadFault net streams before now = ⊥
@@ -183,10 +254,10 @@ CertifiedCause (status.Rules kind row rule) net streams before now = ⊥
 abbrev pub TakesFlushed : List ℕ → Taken → Taken → Type 0
 TakesFlushed text old new = (new.octets ≡ old.octets ++ text) × (new.flushed ≡ true)
 
--- the text of the least certificate, flushed, or a front of it where writing failed, and else nothing
+-- the text of the least certificate, with ranks or without, flushed, or a front of it where writing failed, and else nothing
 abbrev pub CertifiedLeaves : Status → Network → Streams → Option Taken → Option Taken → Type 0
-CertifiedLeaves status.Done net streams old new = (c : Certificate) × IsLeastRanked net streams c × WhereTold old new (TakesFlushed (certificate_text net streams.rows c))
-CertifiedLeaves status.WriteFault net streams old new = (c : Certificate) × IsLeastRanked net streams c × WhereTold old new (TakesFront (certificate_text net streams.rows c))
+CertifiedLeaves status.Done net streams old new = (c : Certificate) × IsLeastOfBoth net streams c × WhereTold old new (TakesFlushed (certificate_text net streams.rows c))
+CertifiedLeaves status.WriteFault net streams old new = (c : Certificate) × IsLeastOfBoth net streams c × WhereTold old new (TakesFront (certificate_text net streams.rows c))
 CertifiedLeaves (status.Unfit cause) net streams old new = new ≡ old
 CertifiedLeaves status.Memory net streams old new = new ≡ old
 CertifiedLeaves status.Words net streams old new = new ≡ old
@@ -210,7 +281,7 @@ abbrev pub RefusedIn : List ℕ → List ℕ → Status → Files → Type 0
 RefusedIn net_word streams_word s files =
     NetRefused net_word s files
     ⊎ ((net : Network) × IsNetIn net_word net files × StreamsRefused streams_word net s files)
-    ⊎ ((net : Network) × (streams : Streams) × AreBothIn net_word streams_word net streams files × ((cause : Unfit) × UnfitCause cause net streams × (s ≡ status.Unfit cause)))
+    ⊎ ((net : Network) × (streams : Streams) × AreBothIn net_word streams_word net streams files × HasNone s net streams)
 
 -- the network's text isn't there; or it's read, and the streams' text isn't there
 abbrev pub GoneIn : List ℕ → List ℕ → Option Told → Type 0
@@ -222,7 +293,7 @@ GoneIn net_word streams_word (Some told) =
 -- the words stand for a network and streams that have a certificate
 abbrev pub HasBoth : List ℕ → List ℕ → Outside → Type 0
 HasBoth net_word streams_word o =
-    (net : Network) × (streams : Streams) × WhereTold o.told_before o.told_after (OfFiles (AreBothIn net_word streams_word net streams)) × HasLeast net streams
+    (net : Network) × (streams : Streams) × WhereTold o.told_before o.told_after (OfFiles (AreBothIn net_word streams_word net streams)) × HasCertificate net streams
 
 -- the cause of each answer; want of memory is free
 abbrev pub CertifyingCause : Status → List ℕ → List ℕ → Outside → Type 0
@@ -236,7 +307,7 @@ CertifyingCause status.Memory net_word streams_word o = Unit {0}
 CertifyingCause status.Words net_word streams_word o = ⊥
 CertifyingCause (status.Rejected clause row) net_word streams_word o = ⊥
 CertifyingCause (status.Unruly line) net_word streams_word o = ⊥
-CertifyingCause (status.Unsettled arc prio) net_word streams_word o = ⊥
+CertifyingCause (status.Unsettled arc prio) net_word streams_word o = WhereTold o.told_before o.told_after (OfFiles (RefusedIn net_word streams_word (status.Unsettled arc prio)))
 CertifyingCause status.NoArc net_word streams_word o = ⊥
 CertifyingCause (status.Alias arc ordinal) net_word streams_word o = ⊥
 

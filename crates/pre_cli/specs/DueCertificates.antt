@@ -1,19 +1,24 @@
 -- What is answered to a network and streams that are to be certified: the causes leave no other answer.
-use Rattle.std.specs.Prelude.{◌≡◌, ◌≢◌, ◌⊎◌, ℕ, List, None}
+use Rattle.std.specs.Prelude.{◌≡◌, ◌≢◌, ◌⊎◌, ℕ, List, None, false}
 use Rattle.pre_base.specs.Faults.{Rose}
 use Rattle.pre_base.specs.Shelves.{Told}
+use Rattle.pre_base.specs.declared.numbers.ArcId.{ArcId}
 use Rattle.pre_topo.specs.declared.network.Network.{Network}
 use Rattle.pre_streams.specs.declared.rows.Streams.{Streams}
 use Rattle.pre_bound.specs.Listed.{HasGood}
 use Rattle.pre_certify.specs.Causes.{Cause}
-use Rattle.pre_certify.specs.Refusals.{SameRefusal}
+use Rattle.pre_certify.specs.Refusals.{SameRefusal, names_cycle}
 use Rattle.pre_certify.specs.declared.unfit.Unfit.{Unfit}
 use Rattle.pre_certify.specs.declared.unfit.Unfit.TheVariants as unfit
+use Rattle.pre_rounds.specs.declared.faults.RoundsFault.{RoundsFault}
+use Rattle.pre_rounds.specs.declared.faults.RoundsFault.TheVariants as rounds
+use Rattle.pre_rounds.specs.Causes as of_rounds
+use Rattle.pre_rounds.specs.Answers.{NoneCaused}
 use Rattle.pre_cli.specs.declared.statuses.Status.{Status}
 use Rattle.pre_cli.specs.declared.statuses.Status.TheVariants as status
 use Rattle.pre_cli.specs.Answers.{Outside}
 use Rattle.pre_cli.specs.Due.{TellsFiles, GivesUp}
-use Rattle.pre_cli.specs.Certifying.{pair_network, pair_streams, text_named, IsNetIn, AreStreamsIn, NetRefused, StreamsRefused, HasLeast, UnfitCause, CertifyingCause}
+use Rattle.pre_cli.specs.Certifying.{pair_network, pair_streams, text_named, IsNetIn, AreStreamsIn, NetRefused, StreamsRefused, HasCertificate, HasNone, IsAnswerTo, CertifyingCause}
 
 -- ---- answers
 
@@ -30,7 +35,7 @@ RefusesAs e s = (u : Unfit) × SameRefusal u e × (s ≡ status.Unfit u)
 
 -- there is a certificate, or why there is none, or neither memory nor the shelf serves
 abbrev pub IsDueForBoth : Outside → Network → Streams → Status → Type 0
-IsDueForBoth o net streams s = (IsCertified o s × HasLeast net streams) ⊎ ((u : Unfit) × UnfitCause u net streams × (s ≡ status.Unfit u)) ⊎ GivesUp o s
+IsDueForBoth o net streams s = (IsCertified o s × HasCertificate net streams) ⊎ HasNone s net streams ⊎ GivesUp o s
 
 -- ---- where the shelf tells its files, the answers to two words: the network's text isn't there, or is refused
 
@@ -59,14 +64,27 @@ BothRead = (s : Status) (net_word streams_word : List ℕ) (o : Outside) (told :
     → TellsFiles o told → IsNetIn net_word net told.files → AreStreamsIn streams_word net streams told.files
     → CertifyingCause s net_word streams_word o → IsDueForBoth o net streams s
 
--- and have a good certificate
+-- and have a good certificate with ranks
 abbrev pub GoodIsCertified : Type 0
 GoodIsCertified = (s : Status) (net_word streams_word : List ℕ) (o : Outside) (told : Told) (net : Network) (streams : Streams)
     → TellsFiles o told → IsNetIn net_word net told.files → AreStreamsIn streams_word net streams told.files
     → HasGood net streams → CertifyingCause s net_word streams_word o → IsCertified o s ⊎ GivesUp o s
 
--- or a cause to be refused
+-- or a cause to be refused that is no cycle
 abbrev pub CauseIsAnswered : Type 0
 CauseIsAnswered = (s : Status) (net_word streams_word : List ℕ) (o : Outside) (told : Told) (net : Network) (streams : Streams) (e : Unfit)
     → TellsFiles o told → IsNetIn net_word net told.files → AreStreamsIn streams_word net streams told.files
-    → e ≢ unfit.Memory → Cause net streams.rows e → CertifyingCause s net_word streams_word o → RefusesAs e s ⊎ GivesUp o s
+    → e ≢ unfit.Memory → names_cycle e ≡ false → Cause net streams.rows e → CertifyingCause s net_word streams_word o → RefusesAs e s ⊎ GivesUp o s
+
+-- or routes with a cycle, and no fault of the rounds has a cause
+abbrev pub SettledIsCertified : Type 0
+SettledIsCertified = (s : Status) (net_word streams_word : List ℕ) (o : Outside) (told : Told) (net : Network) (streams : Streams) (arcs : List ArcId)
+    → TellsFiles o told → IsNetIn net_word net told.files → AreStreamsIn streams_word net streams told.files
+    → Cause net streams.rows (unfit.Cycle arcs) → NoneCaused net streams.rows → CertifyingCause s net_word streams_word o → IsCertified o s ⊎ GivesUp o s
+
+-- or one has
+abbrev pub FaultIsAnswered : Type 0
+FaultIsAnswered = (s : Status) (net_word streams_word : List ℕ) (o : Outside) (told : Told) (net : Network) (streams : Streams) (arcs : List ArcId) (e : RoundsFault)
+    → TellsFiles o told → IsNetIn net_word net told.files → AreStreamsIn streams_word net streams told.files
+    → Cause net streams.rows (unfit.Cycle arcs) → e ≢ rounds.Memory → of_rounds.Cause net streams.rows e → CertifyingCause s net_word streams_word o
+    → IsAnswerTo e streams.rows s ⊎ GivesUp o s

@@ -1,19 +1,24 @@
-ghost use Rattle.std.specs.Prelude.{◌≡◌, ℕ, ◌≤◌, length, map, IfOk, IfErr, Ok, Err, codes};
+ghost use Rattle.std.specs.Prelude.{◌≡◌, ◌<◌, ℕ, ◌≤◌, length, map, IfOk, IfErr, Ok, Err, codes};
 ghost use Rattle.pre_base.specs.Faults.{Rose};
 ghost use Rattle.pre_base.specs.Told.{WhereTold};
+ghost use Rattle.pre_topo.specs.declared.network.Network as network;
 ghost use Rattle.pre_streams.specs.Fits.{Fits};
+ghost use Rattle.pre_streams.specs.declared.rows.Row as stream_row;
+ghost use Rattle.pre_bound.specs.Good.{IsStream};
 ghost use Rattle.pre_certify.specs.Causes as causes;
-ghost use Rattle.pre_certify.specs.Refusals.{NoneRefuses};
-ghost use Rattle.pre_cli.specs.Certifying.{IsLeastRanked, CertifiedCause, CertifiedLeaves, CertifyingCause, CertifyingLeaves};
+ghost use Rattle.pre_certify.specs.Refusals.{names_cycle};
+ghost use Rattle.pre_rounds.specs.Causes as of_rounds;
+ghost use Rattle.pre_cli.specs.Certifying.{HaveCycle, HasCertificate, IsLeastOfBoth, IsPortAt, IsAnswerTo, CertifiedCause, CertifiedLeaves, CertifyingCause, CertifyingLeaves};
 ghost use Rattle.pre_cli.specs.Certifying.{pair_network, pair_streams, IsTextIn, OfFiles, IsGone, IsLong, InPlace, IsNetIn, NetRefused, AreStreamsIn, StreamsRefused};
 ghost use Rattle.pre_cli.specs.Certifying as certifying;
 
 use crate::listings::flushed;
 use crate::{FileWord, Status};
-use pre_base::{FileRow, ReadError, Shelf, Sink, read_whole};
+use pre_base::{ArcId, FileRow, Prio, ReadError, Shelf, Sink, StreamId, read_whole};
 use pre_bound::Certificate;
 use pre_certify::{Unfit, certify, put_certificate};
-use pre_streams::{StreamFault, Streams, read_streams};
+use pre_rounds::{RoundsFault, rounds};
+use pre_streams::{Row, StreamFault, Streams, read_streams};
 use pre_topo::{Network, TopoFault, read_network};
 use std::alloc::Global;
 
@@ -188,6 +193,49 @@ pub(crate) fn unfit_status(cause: Unfit) -> Status
     }
 }
 
+fn is_cycle(cause: &Unfit) -> bool
+    ensures { result ≡ names_cycle cause.now }
+{
+    match cause {
+        Unfit::Cycle { arcs: _ } => true,
+        Unfit::Overload { arc: _ } => false,
+        Unfit::Large { arc: _, prio: _ } => false,
+        Unfit::Ring {
+            arc: _,
+            prio: _,
+            need: _,
+        } => false,
+        Unfit::Memory => false,
+    }
+}
+
+/// The port at a hop of a stream's route.
+fn port_at(rows: &[Row], stream: StreamId, hop: u64) -> (ArcId, Prio)
+    requires { (row : stream_row.Row) × IsStream rows.now stream.0 row × (hop < length row.arcs) }
+    ensures { IsPortAt rows.now stream.0 hop result.0 result.1 }
+{
+    let row = &rows[stream.0 as usize];
+    (row.arcs.as_slice()[hop as usize], row.prio)
+}
+
+/// The answer to a fault of the rounds.
+fn rounds_status(rows: &[Row], fault: RoundsFault) -> Status
+    requires { (net : network.Network) × of_rounds.Cause net rows.now fault }
+    ensures { IsAnswerTo fault rows.now result }
+{
+    match fault {
+        RoundsFault::Overload { arc } => Status::Unfit(Unfit::Overload { arc }),
+        RoundsFault::Large { arc, prio } => Status::Unfit(Unfit::Large { arc, prio }),
+        RoundsFault::Unsettled { arc, prio } => Status::Unsettled { arc, prio },
+        RoundsFault::Wide { stream, hop } => {
+            let (arc, prio) = port_at(rows, stream, hop);
+            Status::Unfit(Unfit::Large { arc, prio })
+        }
+        RoundsFault::Ring { arc, prio, need } => Status::Unfit(Unfit::Ring { arc, prio, need }),
+        RoundsFault::Memory => Status::Memory,
+    }
+}
+
 /// Writes the least certificate, and passes it on.
 fn put_least<S: Sink>(
     certificate: &Certificate,
@@ -195,8 +243,8 @@ fn put_least<S: Sink>(
     streams: &Streams,
     sink: &mut S,
 ) -> Status
-    requires least { IsLeastRanked net.now streams.now certificate.now }
-    requires none { NoneRefuses net.now streams.now.rows }
+    requires least { IsLeastOfBoth net.now streams.now certificate.now }
+    requires has { HasCertificate net.now streams.now }
     ensures cause { CertifiedCause result net.now streams.now (S.faults sink.old) (S.faults sink.new) }
     ensures leaves { CertifiedLeaves result net.now streams.now (S.tells sink.old) (S.tells sink.new) }
     ensures later { S.faults sink.old ≤ S.faults sink.new }
@@ -207,7 +255,21 @@ fn put_least<S: Sink>(
     }
 }
 
-/// Certifies streams, and writes the certificate.
+/// Certifies streams whose routes have a cycle, without ranks, and writes the certificate.
+fn certify_rounds<S: Sink>(alloc: Global, net: &Network, streams: &Streams, sink: &mut S) -> Status
+    requires fits { Fits net.now streams.now }
+    requires cycle { HaveCycle net.now streams.now }
+    ensures cause { CertifiedCause result net.now streams.now (S.faults sink.old) (S.faults sink.new) }
+    ensures leaves { CertifiedLeaves result net.now streams.now (S.tells sink.old) (S.tells sink.new) }
+    ensures later { S.faults sink.old ≤ S.faults sink.new }
+{
+    match rounds(alloc, net, streams) {
+        Ok(certificate) => put_least(&certificate, net, streams, sink),
+        Err(fault) => rounds_status(streams.rows.as_slice(), fault),
+    }
+}
+
+/// Certifies streams, without ranks where their routes have a cycle, and writes the certificate.
 fn certify_streams<S: Sink>(alloc: Global, net: &Network, streams: &Streams, sink: &mut S) -> Status
     requires { Fits net.now streams.now }
     ensures cause { CertifiedCause result net.now streams.now (S.faults sink.old) (S.faults sink.new) }
@@ -216,12 +278,18 @@ fn certify_streams<S: Sink>(alloc: Global, net: &Network, streams: &Streams, sin
 {
     match certify(alloc, net, streams) {
         Ok(certificate) => put_least(&certificate, net, streams, sink),
-        Err(cause) => unfit_status(cause),
+        Err(cause) => {
+            if is_cycle(&cause) {
+                certify_rounds(alloc, net, streams, sink)
+            } else {
+                unfit_status(cause)
+            }
+        }
     }
 }
 
 /// The command `certify` with the names of a network file and a stream file, or `pair` for the built-in text: it writes
-/// the least certificate of the streams.
+/// the least certificate of the streams, without ranks where their routes have a cycle.
 pub(crate) fn certify_files<H: Shelf, S: Sink>(
     alloc: Global,
     net_word: &str,

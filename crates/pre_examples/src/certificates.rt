@@ -3,6 +3,7 @@
 use crate::networks::{AREAS, BRIDGED, DIRECT, NARROW, SHORT_FRAMES, WHOLE_FRAMES};
 use crate::running::{assert_status, wide_sink, words_of};
 use crate::streams::{ACROSS_AREAS, BY_BRIDGE, THREE_ROWS, TWO_ROWS};
+use crate::verdicts::ROUND_WITHOUT_RANKS;
 use pre_base::{MemoryShelf, Sink};
 use pre_cli::{Status, due_certificates, preempt};
 use std::alloc::{AllocError, Global};
@@ -185,6 +186,44 @@ burst = 84
 rate = 1000
 "#;
 
+/// Five bridges in a ring, with a station at each.
+const RING_OF_FIVE: &str = r#"express_from = 4
+node = [
+    {name = "g0", kind = "bridge"},
+    {name = "g1", kind = "bridge"},
+    {name = "g2", kind = "bridge"},
+    {name = "g3", kind = "bridge"},
+    {name = "g4", kind = "bridge"},
+    {name = "h0", kind = "station"},
+    {name = "h1", kind = "station"},
+    {name = "h2", kind = "station"},
+    {name = "h3", kind = "station"},
+    {name = "h4", kind = "station"},
+]
+link = [
+    {ends = ["g0", "g1"], cost = 1, mode = "on", rings = [64, 64, 64, 64, 64, 64, 64, 64]},
+    {ends = ["g1", "g2"], cost = 1, mode = "on", rings = [64, 64, 64, 64, 64, 64, 64, 64]},
+    {ends = ["g2", "g3"], cost = 1, mode = "on", rings = [64, 64, 64, 64, 64, 64, 64, 64]},
+    {ends = ["g3", "g4"], cost = 1, mode = "on", rings = [64, 64, 64, 64, 64, 64, 64, 64]},
+    {ends = ["g4", "g0"], cost = 1, mode = "on", rings = [64, 64, 64, 64, 64, 64, 64, 64]},
+    {ends = ["h0", "g0"], cost = 1, mode = "on", rings = [64, 64, 64, 64, 64, 64, 64, 64]},
+    {ends = ["h1", "g1"], cost = 1, mode = "on", rings = [64, 64, 64, 64, 64, 64, 64, 64]},
+    {ends = ["h2", "g2"], cost = 1, mode = "on", rings = [64, 64, 64, 64, 64, 64, 64, 64]},
+    {ends = ["h3", "g3"], cost = 1, mode = "on", rings = [64, 64, 64, 64, 64, 64, 64, 64]},
+    {ends = ["h4", "g4"], cost = 1, mode = "on", rings = [64, 64, 64, 64, 64, 64, 64, 64]},
+]
+"#;
+
+/// Five streams, each over four links of the ring, that want four fifths of its time.
+const ROUND_OF_FIVE: &str = r#"stream = [
+    {name = "c0", vid = 1, prio = 6, route = ["h0", "g0", "g1", "g2", "g3", "g4", "h4"], max = 64, burst = 84, rate = 200000},
+    {name = "c1", vid = 2, prio = 6, route = ["h1", "g1", "g2", "g3", "g4", "g0", "h0"], max = 64, burst = 84, rate = 200000},
+    {name = "c2", vid = 3, prio = 6, route = ["h2", "g2", "g3", "g4", "g0", "g1", "h1"], max = 64, burst = 84, rate = 200000},
+    {name = "c3", vid = 4, prio = 6, route = ["h3", "g3", "g4", "g0", "g1", "g2", "h2"], max = 64, burst = 84, rate = 200000},
+    {name = "c4", vid = 5, prio = 6, route = ["h4", "g4", "g0", "g1", "g2", "g3", "h3"], max = 64, burst = 84, rate = 200000},
+]
+"#;
+
 /// Two stations and a link on which an octet takes 1000 ticks.
 const SLOW: &str = r#"express_from = 4
 [[node]]
@@ -222,11 +261,15 @@ fn certified<S: Sink>(
 #[test]
 fn worked_certificates(rt: HostRuntime) -> Result<(), Fail> {
     let alloc = rt.alloc();
+    let round = format!(in alloc;
+        "{ROUND_WITHOUT_RANKS}bound c1 801\nbound c2 801\nbound c3 801\nend\n"
+    )?;
     for (net, streams, words, text) in [
         ("", "", "certify pair pair", PAIR),
         (DIRECT, TWO_ROWS, "certify net streams", PAIR),
         (BRIDGED, BY_BRIDGE, "certify net streams", TWO_HOPS),
         ("", THREE_ROWS, "certify pair streams", TWO_PRIORITIES),
+        (RING, ROUND, "certify net streams", round.as_str()),
     ] {
         let mut sink = wide_sink(alloc)?;
         let status = certified(alloc, net, streams, words, &mut sink)?;
@@ -303,8 +346,14 @@ fn refusals(rt: HostRuntime) -> Result<(), Fail> {
             5,
             "rules net node 0 2",
         ),
-        (RING, ROUND, "certify net streams", 6, "unfit cycle 0 2 4"),
         (SLOW, GREATEST, "certify net streams", 6, "unfit large 0 6"),
+        (
+            RING_OF_FIVE,
+            ROUND_OF_FIVE,
+            "certify net streams",
+            6,
+            "unfit large 0 6",
+        ),
         (DIRECT, "[", "certify net streams", 4, "form streams 0 1"),
         (DIRECT, TWO_ROWS, "certify none streams", 2, "read fault"),
     ] {

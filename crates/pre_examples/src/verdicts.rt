@@ -28,7 +28,7 @@ end
 ";
 
 /// Streams that go round three bridges: no ranks rise along their routes.
-const ROUND_WITHOUT_RANKS: &str = "certificate 3
+pub const ROUND_WITHOUT_RANKS: &str = "certificate 3
 arc p>q 0
 arc q>r 0
 arc r>p 0

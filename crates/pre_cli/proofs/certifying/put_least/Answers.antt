@@ -3,8 +3,8 @@ use Rattle.pre_cli.proofs.certifying.put_least.Goals as goal
 
 pub returns-in-Ok-clause-cause : goal.returns-in-Ok-clause-cause
 returns-in-Ok-clause-cause g c =
-    flushed_cause c.flushed.result c.args.net.now c.args.streams.now c.args.certificate.now (g.S.Sink.faults c.args.sink.now) (g.S.Sink.faults c.put_certificate.new.sink) (g.S.Sink.faults c.flushed.new.sink)
-    (g.S.Sink.tells c.put_certificate.new.sink) (g.S.Sink.tells c.flushed.new.sink) c.requires.least c.requires.none c.put_certificate.ensures.cause.later c.flushed.ensures.ends c.flushed.ensures.cause
+    flushed_cause c.flushed.result c.args.net.now c.args.streams.now (g.S.Sink.faults c.args.sink.now) (g.S.Sink.faults c.put_certificate.new.sink) (g.S.Sink.faults c.flushed.new.sink)
+    (g.S.Sink.tells c.put_certificate.new.sink) (g.S.Sink.tells c.flushed.new.sink) c.requires.has c.put_certificate.ensures.cause.later c.flushed.ensures.ends c.flushed.ensures.cause
 
 pub returns-in-Ok-clause-leaves : goal.returns-in-Ok-clause-leaves
 returns-in-Ok-clause-leaves g c =
