@@ -26,18 +26,19 @@ Parts = Network × (Streams × Script)
 abbrev parts : {number : ℕ} → Drill number → Parts
 parts x = (x.net, (x.streams, x.script))
 
-module _ (one : (n : ℕ) (net other : Network) (streams others : Streams) (script another : Script) → IsPlant n net streams script → IsPlant n other others another → AreSame net other streams others script another)
-    (leads : (w : Scenario) → (s : Status) × RunsTo w s × ((t : Status) → RunsTo w t → t ≡ s)) where
+module _ (one : (n : ℕ) (net other : Network) (streams others : Streams) (script another : Script) → IsPlant n net streams script → IsPlant n other others another → AreSame net other streams others script another) where
   -- a number has one plant
-  same : (number : ℕ) (x y : Drill number) → parts x ≡ parts y
+  pub same : (number : ℕ) (x y : Drill number) → parts x ≡ parts y
   same number x y =
       let is = one number x.net y.net x.streams y.streams x.script y.script x.is_plant y.is_plant in
       ap (λ (n : Network). (n, (x.streams, x.script))) (one_network x.net y.net is.parts)
       ∙ ap (λ (s : Streams). (y.net, (s, x.script))) (one_streams x.streams y.streams is.rows)
       ∙ ap (λ (s : Script). (y.net, (y.streams, s))) is.scripts
 
+module _ (one : (n : ℕ) (net other : Network) (streams others : Streams) (script another : Script) → IsPlant n net streams script → IsPlant n other others another → AreSame net other streams others script another)
+    (leads : (w : Scenario) → (s : Status) × RunsTo w s × ((t : Status) → RunsTo w t → t ≡ s)) where
   moved : (P : Parts → Type 0) (number : ℕ) (x y : Drill number) → P (parts x) → P (parts y)
-  moved P number x y p = subst P (same number x y) p
+  moved P number x y p = subst P (same one number x y) p
 
   module _ (number : ℕ) (x : Drill number) where
     least : (y : Drill number) → HasLeast y.net y.streams → HasLeast x.net x.streams

@@ -23,6 +23,7 @@ pub mod HeadlineLemmas
 pub mod DueReplaying
 pub mod Replayeds
 pub mod DrillLemmas
+pub mod OneSummary
 pub mod DissectLemmas
 pub mod DueDissections
 pub mod DueDrills

@@ -107,3 +107,10 @@ DrillRuns = (number : ℕ) (x : Drill number) (s t : Status) (before now : ℕ) 
 abbrev pub DrillRefuses : Type 0
 DrillRefuses = (number : ℕ) (x : Drill number) (s : Status) (before now : ℕ) (e : Unfit) → e ≢ unfit.Memory → Cause x.net x.streams.rows e → DrillingCause number s before now
     → RefusesAs e s ⊎ (s ≡ status.Memory)
+
+-- ---- one text
+
+-- All drills of a number that are done took one text.
+abbrev pub OneSummary : Type 0
+OneSummary = (number : ℕ) (x y : Drill number) (c d : Certificate) (a b p q : Taken) → (first : Drilled number x c a b) → (second : Drilled number y d p q)
+    → summary_text x.net x.streams x.script first.history c.bounds number ≡ summary_text y.net y.streams y.script second.history d.bounds number

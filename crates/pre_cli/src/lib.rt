@@ -22,7 +22,7 @@ mod statuses;
 
 pub use certifying_laws::due_certificates;
 pub use dissecting_laws::due_dissections;
-pub use drilling_laws::due_drills;
+pub use drilling_laws::{due_drills, one_summary};
 pub use judging_laws::due_verdicts;
 pub use laws::{due_answers, headline, one_trace};
 pub use listing_laws::due_listings;

@@ -3,6 +3,7 @@
 ghost use Rattle.std.specs.Prelude.{◌≡◌, ◌≤◌, None};
 ghost use Rattle.pre_base.specs.Faults.{Rose};
 
+use crate::captures::CAPTURE;
 use crate::certificates::{PAIR, TWO_HOPS};
 use crate::listings::PACKETS;
 use crate::networks::BRIDGED;
@@ -14,21 +15,23 @@ use std::alloc::{AllocError, Global};
 use std::test::Fail;
 
 /// Every command over files, with its own words for them.
-const COMMANDS: [&str; 5] = [
+const COMMANDS: [&str; 6] = [
     "certify net streams",
     "judge net streams cert",
     "migrate net streams cert",
     "replay net streams cert script",
     "mpackets packets",
+    "dissect capture",
 ];
 
 /// The same over the built-in network and streams.
-const PAIR_COMMANDS: [&str; 5] = [
+const PAIR_COMMANDS: [&str; 6] = [
     "certify pair pair",
     "judge pair pair pair_cert",
     "migrate pair pair pair_cert",
     "replay pair pair pair_cert script",
     "mpackets packets",
+    "dissect capture",
 ];
 
 /// More calls than a command makes of a shelf or of a sink.
@@ -43,6 +46,7 @@ fn good_files(alloc: Global, fails: &[u64]) -> Result<MemoryShelf, AllocError> {
     shelf.put("pair_cert", PAIR.as_bytes())?;
     shelf.put("script", b"send 0 x 64\nuntil 5000\n".as_slice())?;
     shelf.put("packets", PACKETS.as_bytes())?;
+    shelf.put("capture", CAPTURE.as_slice())?;
     Ok(shelf)
 }
 
