@@ -3,7 +3,6 @@ pub mod Told
 pub mod Shelves
 pub mod ShelfCounts
 pub mod Sinks
-pub mod Pieces
 pub mod Reading
 pub mod Memory
 pub mod SinkView

@@ -1,4 +1,5 @@
-ghost use Rattle.std.specs.Prelude.{◌≡◌, [], ◌∷◌, ◌++◌, ◌↔◌, length, IfOk, IsTrue, OnOk, OnErr, slice_get, slice_set, ◌<◌};
+ghost use Rattle.std.specs.Prelude.{◌≡◌, [], ◌∷◌, ◌++◌, ◌↔◌, length, IfOk, IfErr, IsTrue, OnOk, OnErr, Some, slice_get, slice_set, ◌<◌, ◌≤◌};
+ghost use Rattle.std.specs.List.{insert, remove};
 
 use std::alloc::{AllocError, Global};
 use std::marker::Model;
@@ -84,6 +85,29 @@ impl<T: Drop> Items<T> {
     {
         self.items.insert(0, item)?;
         Ok(())
+    }
+
+    /// Puts an item before the one at this place, or behind the last one; where there isn't enough memory it hands the item
+    /// back.
+    pub fn insert(&mut self, at: usize, item: T) -> Result<(), T>
+        requires { at ≤ length self.old }
+        ensures ok { OnOk result (self.new ≡ insert self.old at item) }
+        ensures err { OnErr result (self.new ≡ self.old) }
+        ensures back { IfErr result (λ back. back ≡ item) }
+    {
+        match self.items.insert(at, item) {
+            Ok(()) => Ok(()),
+            Err(refused) => Err(refused.value),
+        }
+    }
+
+    /// Takes the item at this place out.
+    pub fn remove(&mut self, at: usize) -> T
+        requires { at < length self.old }
+        ensures item { slice_get self.old at ≡ Some result }
+        ensures rest { self.new ≡ remove self.old at }
+    {
+        self.items.remove(at)
     }
 
     /// Puts an item in the place of another.

@@ -48,4 +48,11 @@ impl Name {
     {
         text == self.text.as_str()
     }
+
+    /// Whether the other has the same text.
+    pub fn is_same(&self, other: &Name) -> bool
+        ensures { result ≡ bytes_eq self.now other.now }
+    {
+        self.text.as_str() == other.text.as_str()
+    }
 }

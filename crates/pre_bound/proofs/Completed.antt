@@ -165,7 +165,7 @@ All-pieces : {X Y : Type 0} (P : Y → Type 0) (f : X → List Y) (xs : List X) 
 All-pieces P f [] h = All-nil (λ x. All P (f x))
 All-pieces P f (x ∷ xs) h = All-cons (λ y. All P (f y)) x xs (All-front P (f x) (flat_map f xs) h) (All-pieces P f xs (All-back P (f x) (flat_map f xs) h))
 
-enumerated_at : {X : Type 0} (n : ℕ) (xs : List X) (i k : ℕ) (x : X) → n + i ≡ k → slice_get xs i ≡ Some x → slice_get (enumerate_from n xs) i ≡ Some (k, x)
+pub enumerated_at : {X : Type 0} (n : ℕ) (xs : List X) (i k : ℕ) (x : X) → n + i ≡ k → slice_get xs i ≡ Some x → slice_get (enumerate_from n xs) i ≡ Some (k, x)
 enumerated_at n [] i k x same e = absurd (cc)
 enumerated_at n (y ∷ xs) zero k x same e =
     let first : n ≡ k = omega (arith, same) in

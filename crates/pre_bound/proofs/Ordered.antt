@@ -34,7 +34,7 @@ rise-from_ranks net streams rank fits ranks arc next f =
     omega (arith, longer)
 
 -- the burst at a hop and the ticks before it, where the delays on the way are the same
-burst_same : (net : Network) (delays other : Delays) (r : Row) (j : ℕ) → j ≤ length r.arcs → ((i a : ℕ) → i < j → TakesAt r i a → delays a r.prio ≡ other a r.prio) → burst_at net delays r j ≡ burst_at net other r j
+pub burst_same : (net : Network) (delays other : Delays) (r : Row) (j : ℕ) → j ≤ length r.arcs → ((i a : ℕ) → i < j → TakesAt r i a → delays a r.prio ≡ other a r.prio) → burst_at net delays r j ≡ burst_at net other r j
 burst_same net delays other r zero h same = refl
 burst_same net delays other r (suc k) h same =
     let d : ArcId = record { 0 = 0 } in
@@ -56,7 +56,7 @@ ticks-suc net delays r j a at =
     sum_by_more (λ x. hop_ticks net x.0 (delays x.0 r.prio)) r.arcs j d place.0
     ∙ ap (λ n. ticks_before net delays r j + hop_ticks net n (delays n r.prio)) (place.1 d)
 
-ticks_same : (net : Network) (delays other : Delays) (r : Row) (j : ℕ) → j ≤ length r.arcs → ((i a : ℕ) → i < j → TakesAt r i a → delays a r.prio ≡ other a r.prio) → ticks_before net delays r j ≡ ticks_before net other r j
+pub ticks_same : (net : Network) (delays other : Delays) (r : Row) (j : ℕ) → j ≤ length r.arcs → ((i a : ℕ) → i < j → TakesAt r i a → delays a r.prio ≡ other a r.prio) → ticks_before net delays r j ≡ ticks_before net other r j
 ticks_same net delays other r zero h same = refl
 ticks_same net delays other r (suc k) h same =
     let d : ArcId = record { 0 = 0 } in
@@ -71,7 +71,7 @@ ticks_same net delays other r (suc k) h same =
     let eq : k + 1 ≡ suc k = omega arith in
     subst (λ n. ticks_before net delays r n ≡ ticks_before net other r n) eq step
 
-sum_same : {X : Type 0} (f g : X → ℕ) (p : X → Bool) (xs : List X) → ((x : X) → Contains xs x → p x ≡ true → f x ≡ g x) → sum_by f (filter p xs) ≡ sum_by g (filter p xs)
+pub sum_same : {X : Type 0} (f g : X → ℕ) (p : X → Bool) (xs : List X) → ((x : X) → Contains xs x → p x ≡ true → f x ≡ g x) → sum_by f (filter p xs) ≡ sum_by g (filter p xs)
 sum_same f g p [] h = refl
 sum_same f g p (x ∷ xs) h =
     let rest = sum_same f g p xs (λ y c e. h y (contains_tail x y xs c) e) in
@@ -80,11 +80,11 @@ sum_same f g p (x ∷ xs) h =
       | inr none ↦ rw none rest
     ]
 
-any_same : {X : Type 0} (p q : X → Bool) (xs : List X) → ((x : X) → Contains xs x → p x ≡ q x) → list_any p xs ≡ list_any q xs
+pub any_same : {X : Type 0} (p q : X → Bool) (xs : List X) → ((x : X) → Contains xs x → p x ≡ q x) → list_any p xs ≡ list_any q xs
 any_same p q [] h = refl
 any_same p q (x ∷ xs) h = ap (λ b. b || list_any p xs) (h x (contains_head x xs)) ∙ ap (λ b. q x || b) (any_same p q xs (λ y c. h y (contains_tail x y xs c)))
 
-and_same : (p a b : Bool) → (p ≡ true → a ≡ b) → (p && a) ≡ (p && b)
+pub and_same : (p a b : Bool) → (p ≡ true → a ≡ b) → (p && a) ≡ (p && b)
 and_same true a b h = h refl
 and_same false a b h = refl
 
@@ -94,10 +94,10 @@ SameOnTheWay rows delays other a =
     (r : Row) → Contains rows r → IsSome r.curve → takes a r ≡ true → (i c : ℕ) → i < hop_of a r → TakesAt r i c → delays c r.prio ≡ other c r.prio
 
 module _ (net : Network) (rows : List Row) (delays other : Delays) (a : ℕ) (way_same : SameOnTheWay rows delays other a) where
-  hop_within : (r : Row) → takes a r ≡ true → hop_of a r ≤ length r.arcs
+  pub hop_within : (r : Row) → takes a r ≡ true → hop_of a r ≤ length r.arcs
   hop_within r on = let place = TakesAt-place r (hop_of a r) a (TakesAt-hop_of r a on) in omega (arith, place.0)
 
-  burst_on-same : (r : Row) → Contains rows r → IsSome r.curve → takes a r ≡ true → burst_on net delays a r ≡ burst_on net other a r
+  pub burst_on-same : (r : Row) → Contains rows r → IsSome r.curve → takes a r ≡ true → burst_on net delays a r ≡ burst_on net other a r
   burst_on-same r listed express on = burst_same net delays other r (hop_of a r) (hop_within r on) (way_same r listed express on)
 
   bursts_on-same : (low high : ℕ) → bursts_on net delays a low high rows ≡ bursts_on net other a low high rows

@@ -8,7 +8,7 @@ use Rattle.std.proofs.lemmas.List.{take_more}
 use Rattle.std.proofs.lemmas.List.Elements.{All-nil, All-cons, All-head, All-tail, All-push, All-weaker, filter_map-append, Contains-push, Contains-append_left}
 use Rattle.pre_bridge.specs.declared.ingresses.Ingress.{Ingress}
 use Rattle.pre_bridge.specs.declared.ingresses.Waiting.{Waiting}
-use Rattle.pre_bridge.specs.Ingresses.{due_of, dues_of, lesser, IsLeast}
+use Rattle.pre_bridge.specs.Ingresses.{due_of, dues_of, lesser, IsLeastOf}
 use Rattle.pre_bridge.specs.Inside.{Entry, of_arc, IsLeastDue}
 use Rattle.pre_bridge.specs.Relays.{waiting, queue_at}
 use Rattle.pre_bridge.proofs.Lists.{oldest}
@@ -16,19 +16,19 @@ use Rattle.pre_bridge.proofs.Queues.{all_inside, oldest_is, queue_is}
 
 -- ---- the least of several
 
-pub least_more : (xs : List ℕ) (a b : Option ℕ) → IsLeast xs a → IsLeast (xs ++ option_to_list b) (lesser a b)
+pub least_more : (xs : List ℕ) (a b : Option ℕ) → IsLeastOf xs a → IsLeastOf (xs ++ option_to_list b) (lesser a b)
 least_more xs None None e = append-nil xs ∙ e
-least_more xs None (Some b) e = subst (λ ys. IsLeast (ys ++ b ∷ []) (Some b)) (sym e) (Contains-push [] b, All-cons (λ (n : ℕ). b ≤ n) b [] (omega arith) (All-nil (λ (n : ℕ). b ≤ n)))
-least_more xs (Some a) None h = subst (λ ys. IsLeast ys (Some a)) (sym (append-nil xs)) h
+least_more xs None (Some b) e = subst (λ ys. IsLeastOf (ys ++ b ∷ []) (Some b)) (sym e) (Contains-push [] b, All-cons (λ (n : ℕ). b ≤ n) b [] (omega arith) (All-nil (λ (n : ℕ). b ≤ n)))
+least_more xs (Some a) None h = subst (λ ys. IsLeastOf ys (Some a)) (sym (append-nil xs)) h
 least_more xs (Some a) (Some b) h = by (cases_lt b a)
   where
-    by : (b < a) ⊎ (a ≤ b) → IsLeast (xs ++ b ∷ []) (Some (min a b))
+    by : (b < a) ⊎ (a ≤ b) → IsLeastOf (xs ++ b ∷ []) (Some (min a b))
     by (inl lt) =
         let is : b ≡ min a b = omega arith in
-        subst (λ m. IsLeast (xs ++ b ∷ []) (Some m)) is (Contains-push xs b, All-push (λ (n : ℕ). b ≤ n) xs b (All-weaker (λ (n : ℕ). a ≤ n) (λ (n : ℕ). b ≤ n) (λ n le. omega (arith, le)) xs h.1) (omega arith))
+        subst (λ m. IsLeastOf (xs ++ b ∷ []) (Some m)) is (Contains-push xs b, All-push (λ (n : ℕ). b ≤ n) xs b (All-weaker (λ (n : ℕ). a ≤ n) (λ (n : ℕ). b ≤ n) (λ n le. omega (arith, le)) xs h.1) (omega arith))
     by (inr le) =
         let is : a ≡ min a b = omega arith in
-        subst (λ m. IsLeast (xs ++ b ∷ []) (Some m)) is (Contains-append_left xs (b ∷ []) a h.0, All-push (λ (n : ℕ). a ≤ n) xs b h.1 le)
+        subst (λ m. IsLeastOf (xs ++ b ∷ []) (Some m)) is (Contains-append_left xs (b ∷ []) a h.0, All-push (λ (n : ℕ). a ≤ n) xs b h.1 le)
 
 cons_is : (o : Option ℕ) → cons_option o [] ≡ option_to_list o
 cons_is None = refl
@@ -105,7 +105,7 @@ due_at (w ∷ queue) t e = (w, refl, cc)
 -- the least tick of the oldest ones is the least of all inside
 pub least_inside : (xs : List Entry) (ingresses : List Ingress) (least : Option ℕ) → ((j : ℕ) → map waiting (of_arc j xs) ≡ queue_at ingresses j)
     → ((j : ℕ) (ingress : Ingress) → slice_get ingresses j ≡ Some ingress → AllPairs (λ v w. v.due.0 ≤ w.due.0) ingress.queue.items)
-    → IsLeast (dues_of ingresses) least → IsLeastDue xs least
+    → IsLeastOf (dues_of ingresses) least → IsLeastDue xs least
 least_inside xs ingresses None queues ordered e = empty_from xs (all_inside (λ j w. ⊥) xs ingresses queues (λ j ingress f. nothing_in ingress.queue.items (none (due_of ingress.queue.items) j ingress f refl)))
   where
     none : (o : Option ℕ) (j : ℕ) (ingress : Ingress) → slice_get ingresses j ≡ Some ingress → due_of ingress.queue.items ≡ o → due_of ingress.queue.items ≡ None

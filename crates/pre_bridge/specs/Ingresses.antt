@@ -35,6 +35,6 @@ lesser (Some a) None = Some a
 lesser None other = other
 
 -- It is the least of the ticks, or there are none.
-abbrev pub IsLeast : List ℕ → Option ℕ → Type 0
-IsLeast ticks None = ticks ≡ []
-IsLeast ticks (Some t) = Contains ticks t × All (λ tick. t ≤ tick) ticks
+abbrev pub IsLeastOf : List ℕ → Option ℕ → Type 0
+IsLeastOf ticks None = ticks ≡ []
+IsLeastOf ticks (Some t) = Contains ticks t × All (λ tick. t ≤ tick) ticks

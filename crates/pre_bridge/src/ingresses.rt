@@ -2,7 +2,7 @@ ghost use Rattle.std.specs.Prelude.{◌≡◌, ◌≤◌, ◌↔◌, [], ◌∷�
 ghost use Rattle.pre_topo.specs.Arcs.{IsArc, latency_at};
 ghost use Rattle.pre_topo.specs.Nodes.{IsNode};
 ghost use Rattle.circular_buffer.specs.Buffer.{buffer};
-ghost use Rattle.pre_bridge.specs.Ingresses.{ingress_of, is_due_at, due_of, dues_of, lesser, IsLeast};
+ghost use Rattle.pre_bridge.specs.Ingresses.{ingress_of, is_due_at, due_of, dues_of, lesser, IsLeastOf};
 
 use circular_buffer::HeapCircularBuffer;
 use pre_base::{ArcId, NodeId, Tick};
@@ -97,7 +97,7 @@ fn lesser(first: Option<u64>, second: Option<u64>) -> Option<u64>
 
 /// The least tick at which an oldest frame is due.
 pub(crate) fn least_due(ingresses: &[Ingress]) -> Option<u64>
-    ensures { IsLeast (dues_of ingresses.now) result }
+    ensures { IsLeastOf (dues_of ingresses.now) result }
 {
     let mut least = None;
     for ingress in ingresses {

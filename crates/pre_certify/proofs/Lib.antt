@@ -1,5 +1,4 @@
 pub mod Growing
-mod Lines
 pub mod Loading
 pub mod Stepping
 pub mod Peeling

@@ -6,6 +6,7 @@ pub mod Peels
 pub mod Peelings
 pub mod Paths
 pub mod Written
+pub mod Computed
 pub mod Ranked
 pub mod Text
 pub mod Refusals

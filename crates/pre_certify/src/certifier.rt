@@ -12,6 +12,7 @@ ghost use Rattle.pre_certify.specs.Loads.{NoOverload};
 ghost use Rattle.pre_certify.specs.Tables.{delays_in};
 ghost use Rattle.pre_certify.specs.Turns.{IsTable, ranks_in};
 ghost use Rattle.pre_certify.specs.Causes.{Cause};
+ghost use Rattle.pre_certify.specs.Computed.{SaysSettled};
 ghost use Rattle.pre_certify.specs.Peelings.{FollowedWithin};
 ghost use Rattle.pre_certify.specs.Ranked.{HaveRanks};
 ghost use Rattle.pre_certify.specs.Refusals.{NoneRefuses, IsAlone};
@@ -111,6 +112,7 @@ fn finished(
     requires table { IsTable net.now streams.now.rows delays.now }
     ensures least { IfOk result (Least net.now streams.now) }
     ensures ranked { IfOk result HasRanks }
+    ensures settled { IfOk result (SaysSettled net.now streams.now.rows) }
     ensures cause { IfErr result (Cause net.now streams.now.rows) }
 {
     limit_law();
@@ -134,6 +136,7 @@ fn certified(
     requires ranks { HaveRanks net.now streams.now.rows ranks.now }
     ensures least { IfOk result (Least net.now streams.now) }
     ensures ranked { IfOk result HasRanks }
+    ensures settled { IfOk result (SaysSettled net.now streams.now.rows) }
     ensures cause { IfErr result (Cause net.now streams.now.rows) }
 {
     order_law();
@@ -149,6 +152,7 @@ fn certificate_of(alloc: Global, net: &Network, streams: &Streams) -> Result<Cer
     requires prios { PriosBelow streams.now.rows }
     ensures least { IfOk result (Least net.now streams.now) }
     ensures ranked { IfOk result HasRanks }
+    ensures settled { IfOk result (SaysSettled net.now streams.now.rows) }
     ensures cause { IfErr result (Cause net.now streams.now.rows) }
 {
     order_law();
@@ -171,12 +175,14 @@ fn certificate_of(alloc: Global, net: &Network, streams: &Streams) -> Result<Cer
 /// - `Ring`: the first port, by arc and priority, whose ring has too little room, and the room that it needs;
 /// - `Memory`.
 ///
-/// Each comes only where none of those before it does. No refusal but `Memory` comes where there is a good certificate with
-/// ranks, and where one has a cause, no other answer comes, but `Memory` and the choice of a cycle.
+/// The numbers are those that settled delays give. Each refusal comes only where none of those before it does. None but
+/// `Memory` comes where there is a good certificate with ranks, and where one has a cause, no other answer comes, but `Memory`
+/// and the choice of a cycle.
 pub fn certify(alloc: Global, net: &Network, streams: &Streams) -> Result<Certificate, Unfit>
     requires { Fits net.now streams.now }
     ensures least { IfOk result (Least net.now streams.now) }
     ensures ranked { IfOk result HasRanks }
+    ensures settled { IfOk result (SaysSettled net.now streams.now.rows) }
     ensures cause { IfErr result (Cause net.now streams.now.rows) }
     ensures complete { HasGood net.now streams.now → IfErr result (λ e. e ≡ Memory) }
     ensures none { IfOk result (λ c. NoneRefuses net.now streams.now.rows) }

@@ -294,7 +294,9 @@ fn port_numbers(
     requires arc { arc.0 < length net.now.arcs }
     requires few { length rows.now ≤ 512 }
     requires load { is_overloaded net.now rows.now arc.0 ≡ false }
-    ensures { MatchOption result (port_passes net.now rows.now (delays_in delays.now) arc.0 prio ≡ true) (λ row. (port_passes net.now rows.now (delays_in delays.now) arc.0 prio ≡ false) × (row ≡ least_port net.now rows.now (delays_in delays.now) arc.0 prio)) }
+    ensures { MatchOption result (port_passes net.now rows.now (delays_in delays.now) arc.0 prio ≡ true)
+        (λ row. (port_passes net.now rows.now (delays_in delays.now) arc.0 prio ≡ false)
+        × (row ≡ least_port net.now rows.now (delays_in delays.now) arc.0 prio)) }
 {
     let cost = cost_at(net, arc);
     let block = cost * block_octets(net, rows, arc, prio);
@@ -326,7 +328,9 @@ pub(crate) fn port_row(
     requires arc { arc.0 < length net.now.arcs }
     requires few { length rows.now ≤ 512 }
     requires load { is_overloaded net.now rows.now arc.0 ≡ false }
-    ensures { MatchOption result (passes net.now rows.now (delays_in delays.now) arc.0 prio ≡ true) (λ row. (passes net.now rows.now (delays_in delays.now) arc.0 prio ≡ false) × (row ≡ least_port net.now rows.now (delays_in delays.now) arc.0 prio)) }
+    ensures { MatchOption result (passes net.now rows.now (delays_in delays.now) arc.0 prio ≡ true)
+        (λ row. (passes net.now rows.now (delays_in delays.now) arc.0 prio ≡ false)
+        × (row ≡ least_port net.now rows.now (delays_in delays.now) arc.0 prio)) }
 {
     let row = port_numbers(net, rows, delays, arc, prio)?;
     if some_stream_passes(net, rows, delays, arc, prio, row.delay) {

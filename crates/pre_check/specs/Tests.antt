@@ -35,7 +35,8 @@ lower_fit net rows arc prio block = list_all (λ r. not (is_on arc 0 prio r) || 
 
 abbrev pub block_covers : Network → List Row → List ArcRow → PortRow → Bool
 block_covers net rows arcs row =
-    nat_le (cost_at net row.arc.0 * 84) row.block && (lower_fit net rows row.arc.0 row.prio row.block && nat_le (cost_at net row.arc.0 * preemptable_at net row.arc.0 (largest_in arcs row.arc.0)) row.block)
+    nat_le (cost_at net row.arc.0 * 84) row.block
+    && (lower_fit net rows row.arc.0 row.prio row.block && nat_le (cost_at net row.arc.0 * preemptable_at net row.arc.0 (largest_in arcs row.arc.0)) row.block)
 
 -- the sum of the bursts said at the arc of its streams with priorities from low up to below high
 abbrev pub bursts_in : List Row → List HopRow → ℕ → ℕ → ℕ → ℕ

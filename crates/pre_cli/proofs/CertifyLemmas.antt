@@ -8,7 +8,7 @@ use Rattle.pre_base.specs.Told.{WhereTold, WhereTold-join, WhereTold-map}
 use Rattle.pre_base.specs.Shelves.{Told, Files}
 use Rattle.pre_base.specs.Reading.{IsWhole, HasAtLeast, SameFiles}
 use Rattle.pre_base.specs.Sinks.{Taken}
-use Rattle.pre_base.specs.Pieces.{TakesWhole, TakesFront}
+use Rattle.pre_base.specs.Sinks.{TakesWhole, TakesFront}
 use Rattle.pre_topo.specs.declared.network.Network.{Network}
 use Rattle.pre_topo.specs.declared.faults.TopoFault.{TopoFault}
 use Rattle.pre_topo.specs.declared.faults.TopoFault.TheVariants as topo

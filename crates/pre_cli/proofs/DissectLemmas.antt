@@ -5,7 +5,7 @@ use Rattle.pre_base.specs.Faults.{Rose}
 use Rattle.pre_base.specs.Told.{WhereTold, WhereTold-join, WhereTold-map}
 use Rattle.pre_base.specs.Shelves.{Told}
 use Rattle.pre_base.specs.Sinks.{Taken}
-use Rattle.pre_base.specs.Pieces.{TakesWhole, TakesFront}
+use Rattle.pre_base.specs.Sinks.{TakesWhole, TakesFront}
 use Rattle.pre_pcap.specs.declared.faults.PcapFault.{PcapFault}
 use Rattle.pre_pcap.specs.Records.{PacketRecord}
 use Rattle.pre_pcap.specs.Captures.{IsCapture, IsCutBehind, IsFirstFault, IsHeaderFault}

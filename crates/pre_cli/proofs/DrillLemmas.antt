@@ -10,7 +10,7 @@ use Rattle.pre_base.specs.declared.numbers.StreamId.{StreamId}
 use Rattle.pre_base.specs.Faults.{Rose}
 use Rattle.pre_base.specs.Told.{WhereTold, WhereTold-join, WhereTold-map}
 use Rattle.pre_base.specs.Sinks.{Taken}
-use Rattle.pre_base.specs.Pieces.{TakesFront, TakesWhole}
+use Rattle.pre_base.specs.Sinks.{TakesFront, TakesWhole}
 use Rattle.pre_topo.specs.declared.network.Network.{Network}
 use Rattle.pre_streams.specs.declared.rows.Row.{Row}
 use Rattle.pre_script.specs.declared.scripts.Script.{Script}

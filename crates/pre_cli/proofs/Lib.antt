@@ -27,3 +27,7 @@ pub mod OneSummary
 pub mod DissectLemmas
 pub mod DueDissections
 pub mod DueDrills
+pub mod CaptureRuns
+pub mod CaptureLemmas
+pub mod DueCaptures
+pub mod CaptureRead

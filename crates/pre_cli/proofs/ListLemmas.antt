@@ -6,7 +6,7 @@ use Rattle.std.proofs.lemmas.Bool.{false≢true}
 use Rattle.std.proofs.lemmas.List.{append-nil, length-map}
 use Rattle.pre_base.specs.Told.{WhereTold, WhereTold-join}
 use Rattle.pre_base.specs.Sinks.{Taken}
-use Rattle.pre_base.specs.Pieces.{TakesWhole, TakesFront}
+use Rattle.pre_base.specs.Sinks.{TakesWhole, TakesFront}
 use Rattle.pre_receive.specs.Takings.{Taking, IsTaken}
 use Rattle.std.proofs.Math.Seq.{take-length}
 use Rattle.pre_cli.specs.declared.statuses.Status.{Status}

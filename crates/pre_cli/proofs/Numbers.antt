@@ -5,7 +5,8 @@ use Rattle.std.specs.List.{flat_map}
 use Rattle.std.specs.Result.{IsErr}
 use Rattle.pre_base.specs.Told.{WhereTold}
 use Rattle.pre_base.specs.Sinks.{Taken, TakesBut, TakesAll}
-use Rattle.pre_base.specs.Pieces.{TakesFront, breaks}
+use Rattle.pre_base.specs.Sinks.{TakesFront}
+use Rattle.pre_base.proofs.Pieces.{breaks}
 
 -- the word of the item at a place fails, and so do all words
 pub word_fails : {X U E : Type 0} (f : X → List ℕ) (items : List X) (i : ℕ) (d : X) (a b c : Option Taken) (r : Result U E) → i < length items → IsErr r

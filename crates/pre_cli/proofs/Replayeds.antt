@@ -12,7 +12,7 @@ use Rattle.pre_cli.specs.Replaying.{scenario_in, certificate_in, replaying, Repl
 use Rattle.pre_cli.specs.Words.{ReplayWords}
 use Rattle.pre_cli.proofs.DueReadings.{told_as}
 
-told_both : (a b : Option Taken) (old new : Taken) (P : Taken → Taken → Type 0) → a ≡ Some old → b ≡ Some new → WhereTold a b P → P old new
+pub told_both : (a b : Option Taken) (old new : Taken) (P : Taken → Taken → Type 0) → a ≡ Some old → b ≡ Some new → WhereTold a b P → P old new
 told_both a b old new P before after took = subst (λ y. WhereTold (Some old) y P) after (subst (λ x. WhereTold x b P) before took)
 
 pub replayed : (words : ReplayWords) (o : Outside) (told : Told) (old new : Taken) → TellsFiles o told → o.taken_before ≡ Some old → o.taken_after ≡ Some new

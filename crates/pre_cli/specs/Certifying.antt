@@ -6,7 +6,7 @@ use Rattle.pre_base.specs.Faults.{Rose}
 use Rattle.pre_base.specs.Told.{WhereTold}
 use Rattle.pre_base.specs.Shelves.{Told, Files, IsMissing}
 use Rattle.pre_base.specs.Sinks.{Taken}
-use Rattle.pre_base.specs.Pieces.{TakesFront}
+use Rattle.pre_base.specs.Sinks.{TakesFront}
 use Rattle.pre_base.specs.declared.numbers.ArcId.{ArcId}
 use Rattle.pre_base.specs.declared.numbers.FileRow.TheVariants.{Top}
 use Rattle.pre_topo.specs.declared.network.Network.{Network}

@@ -6,12 +6,13 @@ use Rattle.pre_cli.specs.declared.statuses.Status.{Status}
 use Rattle.pre_cli.specs.declared.statuses.Status.TheVariants as status
 use Rattle.pre_cli.specs.declared.commands.Asked.{Asked}
 use Rattle.pre_cli.specs.declared.commands.Asked.TheVariants as asked
-use Rattle.pre_cli.specs.Words.{JudgeWords, judge_words, ReplayWords, replay_words}
+use Rattle.pre_cli.specs.Words.{JudgeWords, judge_words, ReplayWords, replay_words, CaptureWords, capture_words}
 use Rattle.pre_cli.specs.Answers.{Outside}
 use Rattle.pre_cli.specs.Replaying.{ReplayingCause, ReplayingLeaves}
 use Rattle.pre_cli.specs.Readings.{AnswerCause, AnswerLeaves}
 use Rattle.pre_cli.specs.Judging.{judging, Accepts, AcceptsFront, Migrates, MigratesFront}
 use Rattle.pre_cli.specs.Drilling.{DrillingCause, DrillingLeaves}
+use Rattle.pre_cli.specs.Capturing.{CapturingCause, CapturingLeaves}
 use Rattle.pre_cli.specs.Dissecting.{DissectingCause, DissectingLeaves}
 use Rattle.pre_cli.specs.Listed.{ListingCause, ListingLeaves}
 use Rattle.pre_cli.specs.Certifying.{CertifyingCause, CertifyingLeaves}
@@ -24,6 +25,7 @@ pub data Command : Type 0 where
   migrates : JudgeWords → Command
   replays : ReplayWords → Command
   drills : ℕ → Command
+  captures : CaptureWords → Command
   dissects : List ℕ → Command
   unknown : Command
 
@@ -42,14 +44,15 @@ with_two name net streams = if bytes_eq name (codes "certify") then certifies ne
 abbrev pub with_three : List ℕ → JudgeWords → Command
 with_three name words = if bytes_eq name (codes "judge") then judges words else if bytes_eq name (codes "migrate") then migrates words else unknown
 
-abbrev pub with_four : List ℕ → ReplayWords → Command
-with_four name words = if bytes_eq name (codes "replay") then replays words else unknown
+abbrev pub with_four : List ℕ → List ℕ → List ℕ → List ℕ → List ℕ → Command
+with_four name net streams third fourth =
+    if bytes_eq name (codes "replay") then replays (replay_words net streams third fourth) else if bytes_eq name (codes "capture") then captures (capture_words net streams third fourth) else unknown
 
 abbrev pub command_of : List (List ℕ) → Command
 command_of (name ∷ word ∷ []) = with_one name word
 command_of (name ∷ net ∷ streams ∷ []) = with_two name net streams
 command_of (name ∷ net ∷ streams ∷ certificate ∷ []) = with_three name (judge_words net streams certificate)
-command_of (name ∷ net ∷ streams ∷ certificate ∷ script ∷ []) = with_four name (replay_words net streams certificate script)
+command_of (name ∷ net ∷ streams ∷ third ∷ fourth ∷ []) = with_four name net streams third fourth
 command_of words = unknown
 
 -- the same command as the program holds it
@@ -60,6 +63,7 @@ command_asked (asked.Judges net streams certificate) = judges (judge_words net.n
 command_asked (asked.Migrates net streams certificate) = migrates (judge_words net.now streams.now certificate.now)
 command_asked (asked.Replays net streams certificate script) = replays (replay_words net.now streams.now certificate.now script.now)
 command_asked (asked.Drills number) = drills number
+command_asked (asked.Captures net streams script arc) = captures (capture_words net.now streams.now script.now arc.now)
 command_asked (asked.Dissects file) = dissects file.now
 command_asked asked.Unknown = unknown
 
@@ -71,6 +75,7 @@ CauseBy (judges words) s o = AnswerCause (judging words) s o
 CauseBy (migrates words) s o = AnswerCause (judging words) s o
 CauseBy (replays words) s o = ReplayingCause words s o
 CauseBy (drills number) s o = DrillingCause number s o.sink_before o.sink_after
+CauseBy (captures words) s o = CapturingCause words s o
 CauseBy (dissects name) s o = DissectingCause s name o
 CauseBy unknown s o = s ≡ status.Words
 
@@ -85,6 +90,7 @@ LeavesBy (judges words) s o = AnswerLeaves (judging words) Accepts AcceptsFront 
 LeavesBy (migrates words) s o = AnswerLeaves (judging words) Migrates MigratesFront s o
 LeavesBy (replays words) s o = ReplayingLeaves words s o
 LeavesBy (drills number) s o = DrillingLeaves number s o.taken_before o.taken_after
+LeavesBy (captures words) s o = CapturingLeaves words s o
 LeavesBy (dissects name) s o = DissectingLeaves s name o
 LeavesBy unknown s o = o.taken_after ≡ o.taken_before
 

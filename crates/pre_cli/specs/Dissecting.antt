@@ -5,7 +5,7 @@ use Rattle.pre_base.specs.Faults.{Rose}
 use Rattle.pre_base.specs.Told.{WhereTold}
 use Rattle.pre_base.specs.Shelves.{Told, IsMissing}
 use Rattle.pre_base.specs.Sinks.{Taken}
-use Rattle.pre_base.specs.Pieces.{TakesWhole, TakesFront}
+use Rattle.pre_base.specs.Sinks.{TakesWhole, TakesFront}
 use Rattle.pre_pcap.specs.declared.faults.PcapFault.{PcapFault}
 use Rattle.pre_pcap.specs.Rules.{rule_number}
 use Rattle.pre_pcap.specs.Records.{PacketRecord}

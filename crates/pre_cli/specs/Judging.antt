@@ -3,7 +3,7 @@ use Rattle.std.specs.Prelude.{◌≡◌, ◌⊎◌, ℕ, List, None, Ok, Err, co
 use Rattle.std.specs.FinMap.{get}
 use Rattle.pre_base.specs.Shelves.{Files}
 use Rattle.pre_base.specs.Sinks.{Taken}
-use Rattle.pre_base.specs.Pieces.{TakesFront}
+use Rattle.pre_base.specs.Sinks.{TakesFront}
 use Rattle.pre_topo.specs.declared.network.Network.{Network}
 use Rattle.pre_streams.specs.declared.rows.Streams.{Streams}
 use Rattle.pre_bound.specs.declared.certificate.Certificate.{Certificate}

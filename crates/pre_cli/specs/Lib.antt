@@ -20,4 +20,5 @@ pub mod DueCertificates
 pub mod Dissecting
 pub mod Sums
 pub mod Drilling
+pub mod Capturing
 pub mod Commands

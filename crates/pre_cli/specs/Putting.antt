@@ -2,7 +2,7 @@
 use Rattle.std.specs.Prelude.{◌≡◌, ◌⊎◌, ℕ, ◌≤◌, List, Option}
 use Rattle.pre_base.specs.Told.{WhereTold}
 use Rattle.pre_base.specs.Sinks.{Taken}
-use Rattle.pre_base.specs.Pieces.{TakesFront}
+use Rattle.pre_base.specs.Sinks.{TakesFront}
 use Rattle.pre_cli.specs.declared.statuses.Status.{Status}
 use Rattle.pre_cli.specs.declared.statuses.Status.TheVariants as status
 use Rattle.pre_cli.specs.Certifying.{TakesFlushed}

@@ -70,7 +70,7 @@ unfit_text unfit.Memory = codes "memory"
 
 -- the answer for wrong words
 unfoldable pub usage : List ℕ
-usage = codes "usage: preempt certify, judge, migrate, replay, mpackets, drill or dissect"
+usage = codes "usage: preempt certify, judge, migrate, replay, mpackets, drill, capture or dissect"
 
 abbrev pub text_of : Status → List ℕ
 text_of status.Done = []

@@ -17,3 +17,13 @@ pub record ReplayWords : Type 0 where
 
 abbrev pub replay_words : List ℕ → List ℕ → List ℕ → List ℕ → ReplayWords
 replay_words net streams certificate script = record { plan = judge_words net streams certificate; script = script }
+
+-- the words for the network, the streams, the script and the arc of a capture
+pub record CaptureWords : Type 0 where
+  pub net : List ℕ
+  pub streams : List ℕ
+  pub script : List ℕ
+  pub arc : List ℕ
+
+abbrev pub capture_words : List ℕ → List ℕ → List ℕ → List ℕ → CaptureWords
+capture_words net streams script arc = record { net = net; streams = streams; script = script; arc = arc }

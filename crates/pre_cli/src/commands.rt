@@ -38,6 +38,13 @@ pub(crate) enum Asked<'a> {
     Drills {
         number: u64,
     },
+    /// `capture NET STREAMS SCRIPT ARC`
+    Captures {
+        net: &'a str,
+        streams: &'a str,
+        script: &'a str,
+        arc: &'a str,
+    },
     /// `dissect FILE`
     Dissects {
         file: &'a str,
@@ -86,6 +93,14 @@ pub(crate) fn command_of(words: &[String]) -> Asked<'_>
                 streams,
                 certificate,
                 script,
+            }
+        }
+        [command, net, streams, script, arc] if command.as_str() == "capture" => {
+            Asked::Captures {
+                net,
+                streams,
+                script,
+                arc,
             }
         }
         _ => Asked::Unknown,

@@ -1,6 +1,8 @@
 //! The commands of the program, over a shelf of files and a sink of octets.
 #![tactic(auto)]
 
+mod capturing;
+mod capturing_laws;
 mod certifying;
 mod certifying_laws;
 mod commands;
@@ -20,6 +22,7 @@ mod refusals;
 mod replays;
 mod statuses;
 
+pub use capturing_laws::{captures_are_read_back, due_captures};
 pub use certifying_laws::due_certificates;
 pub use dissecting_laws::due_dissections;
 pub use drilling_laws::{due_drills, one_summary};

@@ -2,6 +2,7 @@ ghost use Rattle.std.specs.Prelude.{◌≡◌, ◌≤◌, map, string_bytes};
 ghost use Rattle.pre_cli.specs.Commands.{CauseOf, LeavesOf};
 
 use crate::Status;
+use crate::capturing::capture_files;
 use crate::certifying::certify_files;
 use crate::commands::{Asked, command_of};
 use crate::dissecting::dissect_file;
@@ -17,16 +18,18 @@ use std::alloc::Global;
 /// certificate is good for them, and `migrate NET STREAMS CERT` writes it anew; `replay NET STREAMS CERT SCRIPT` runs the
 /// script over these, where the certificate is good and the sends keep to their curves, and writes the trace; `mpackets FILE`
 /// writes a line for each mPacket of the file, with what it gives to one receiver; `drill N` makes the large plant of the
-/// number N, certifies it, runs its script and writes the summary of the run; and `dissect FILE` writes a line for each record
-/// of a capture file. In the place of NET or STREAMS the word `pair` stands for a built-in text.
+/// number N, certifies it, runs its script and writes the summary of the run; `capture NET STREAMS SCRIPT ARC` runs the script
+/// without a certificate, and writes the mPackets of the arc with this name as a capture file; and `dissect FILE` writes a line
+/// for each record of one. In the place of NET or STREAMS the word `pair` stands for a built-in text.
 ///
 /// Each answer has its cause, and no two causes hold together; only want of memory is free. Files are read and tested one
 /// by one, in the order of the words, before anything is written. Where the answer is Done, the sink took the whole of the
 /// text and nothing else, flushed. Of `replay` that is the text of a legal history of what the four texts say to run, of which
 /// the headline holds: under a good certificate express frames arrive within their printed bounds, queues stay within their
 /// printed sizes, each delivery is a frame that was sent, octet for octet, and none is delivered twice. Of `mpackets` it is
-/// the listing, of `certify` the text of a certificate that is good and least, and of `migrate` that of the one that was
-/// read. On Alias it took the text of the history before that arrival, flushed. Where writing failed, the sink took a front
+/// the listing, of `certify` the text of a certificate that is good and least, of `migrate` that of the one that was read, and
+/// of `capture` the capture of the arc in a legal history. On Alias it took the text or the capture of the history before that
+/// arrival, flushed. Where writing failed, the sink took a front
 /// of such a text, and else nothing.
 pub fn preempt<H: Shelf, S: Sink>(
     alloc: Global,
@@ -79,6 +82,12 @@ pub fn preempt<H: Shelf, S: Sink>(
             script,
         } => replay_files(alloc, net, streams, certificate, script, shelf, sink),
         Asked::Drills { number } => drill(alloc, number, sink),
+        Asked::Captures {
+            net,
+            streams,
+            script,
+            arc,
+        } => capture_files(alloc, net, streams, script, arc, shelf, sink),
         Asked::Dissects { file } => dissect_file(alloc, file, shelf, sink),
         Asked::Unknown => Status::Words,
     }

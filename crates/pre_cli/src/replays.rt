@@ -111,7 +111,7 @@ fn script_status(fault: ScriptFault) -> Status
 }
 
 /// The script of a file for this network and these streams, or the answer in its place.
-fn script_in<H: Shelf>(
+pub(crate) fn script_in<H: Shelf>(
     alloc: Global,
     name: &str,
     net: &Network,

@@ -139,7 +139,7 @@ fn put_usage<S: Sink>(sink: &mut S) -> Result<(), Failed>
 {
     write_all(
         sink,
-        b"usage: preempt certify, judge, migrate, replay, mpackets, drill or dissect",
+        b"usage: preempt certify, judge, migrate, replay, mpackets, drill, capture or dissect",
     )
 }
 

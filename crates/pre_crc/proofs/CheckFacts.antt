@@ -1,9 +1,16 @@
--- Of which octets a check consists, and that two checks differ.
-use Rattle.std.proofs.Common.{◌≡◌, ◌≢◌, ℕ, zero, suc, ◌*◌, ◌^◌, ◌<◌, Bool, true, false, List, [], ◌∷◌, All, take, drop, map, not, slice_index, ap, arith, lit<}
+-- How long checks are, of which octets they consist, and that two checks differ.
+use Rattle.std.proofs.Common.{◌≡◌, ◌≢◌, ℕ, zero, suc, ◌*◌, ◌^◌, ◌<◌, Bool, true, false, List, [], ◌∷◌, All, take, drop, map, not, slice_index, ap, arith, lit<, length, refl}
 use Rattle.std.proofs.lemmas.List.Elements.{All-cons, All-nil}
 use native.Mathlib.Nat.{pow-suc}
-use Rattle.pre_crc.specs.CheckFacts.{length-Fcs}
 use Rattle.pre_crc.specs.Checks.{number_of, octets_of, check_remainder, Fcs, Mcrc}
+
+pub length-Fcs : (octets : List ℕ) → length (Fcs octets) ≡ 4
+unfolding octets_of Fcs
+length-Fcs octets = refl
+
+pub length-Mcrc : (octets : List ℕ) → length (Mcrc octets) ≡ 4
+unfolding Mcrc
+length-Mcrc octets = refl
 
 four : (a b c d : ℕ) → a < 256 → b < 256 → c < 256 → d < 256 → All (λ octet. octet < 256) (a ∷ b ∷ c ∷ d ∷ [])
 four a b c d p q r s =

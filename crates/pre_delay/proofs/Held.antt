@@ -9,7 +9,7 @@ use Rattle.std.proofs.lemmas.List.{length-replicate}
 use Rattle.std.proofs.lemmas.List.Folds.{list_any_at}
 use Rattle.std.proofs.lemmas.Option.{slice_get-get_or}
 use Rattle.pre_crc.specs.Checks.{Mcrc}
-use Rattle.pre_crc.specs.CheckFacts.{length-Mcrc}
+use Rattle.pre_crc.proofs.CheckFacts.{length-Mcrc}
 use Rattle.pre_lldp.proofs.ReadBack.{sent-length}
 use Rattle.pre_topo.specs.declared.arcs.Arc.{Arc}
 use Rattle.pre_base.specs.declared.numbers.FrameNo.{FrameNo}

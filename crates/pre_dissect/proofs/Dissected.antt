@@ -6,7 +6,7 @@ use Rattle.std.proofs.lemmas.Bool.{false≢true}
 use Rattle.std.proofs.lemmas.List.{append-nil, length-map}
 use Rattle.pre_base.specs.Told.{WhereTold, WhereTold-join, WhereTold-map}
 use Rattle.pre_base.specs.Sinks.{Taken}
-use Rattle.pre_base.specs.Pieces.{TakesWhole, TakesFront}
+use Rattle.pre_base.specs.Sinks.{TakesWhole, TakesFront}
 use Rattle.pre_history.proofs.Lists.{at_end, within}
 use Rattle.pre_pcap.specs.declared.reading.Capture.{Capture}
 use Rattle.pre_pcap.specs.declared.reading.Record as declared

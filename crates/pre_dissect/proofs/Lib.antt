@@ -1,1 +1,15 @@
 pub mod Dissected
+pub mod Settings
+pub mod Sent
+pub mod Damages
+pub mod Turning
+pub mod Within
+pub mod Growing
+pub mod Taking
+pub mod Begun
+pub mod Closing
+pub mod Sized
+pub mod Keeping
+pub mod ToldResults
+pub mod Closed
+pub mod DissectLaw

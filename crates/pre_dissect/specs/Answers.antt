@@ -3,7 +3,7 @@ use Rattle.std.specs.Prelude.{◌≡◌, ℕ, List, [], ◌∷◌, ◌++◌, len
 use Rattle.pre_base.specs.Faults.{Rose}
 use Rattle.pre_base.specs.Told.{WhereTold}
 use Rattle.pre_base.specs.Sinks.{Taken, TakesAll}
-use Rattle.pre_base.specs.Pieces.{TakesWhole, TakesFront}
+use Rattle.pre_base.specs.Sinks.{TakesWhole, TakesFront}
 use Rattle.pre_pcap.specs.declared.faults.PcapFault.{PcapFault}
 use Rattle.pre_pcap.specs.Records.{PacketRecord}
 use Rattle.pre_pcap.specs.Captures.{IsCapture, IsFirstFault}

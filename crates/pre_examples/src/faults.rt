@@ -15,22 +15,24 @@ use std::alloc::{AllocError, Global};
 use std::test::Fail;
 
 /// Every command over files, with its own words for them.
-const COMMANDS: [&str; 6] = [
+const COMMANDS: [&str; 7] = [
     "certify net streams",
     "judge net streams cert",
     "migrate net streams cert",
     "replay net streams cert script",
     "mpackets packets",
+    "capture net streams script m>b",
     "dissect capture",
 ];
 
 /// The same over the built-in network and streams.
-const PAIR_COMMANDS: [&str; 6] = [
+const PAIR_COMMANDS: [&str; 7] = [
     "certify pair pair",
     "judge pair pair pair_cert",
     "migrate pair pair pair_cert",
     "replay pair pair pair_cert script",
     "mpackets packets",
+    "capture pair pair script a>b",
     "dissect capture",
 ];
 

@@ -8,7 +8,7 @@ use Rattle.pre_crc.specs.Checks.{Fcs}
 use Rattle.pre_frame.specs.Layout.{tag_type, script_type, address_of, tag_control, payload_of, frame_of}
 use Rattle.pre_frame.specs.FrameFields.{IsFrame}
 use Rattle.pre_frame.specs.Built.{fields_built, frame_number}
-use Rattle.pre_frame.specs.FrameFacts.{length-frame_of}
+use Rattle.pre_frame.proofs.FrameFacts.{length-frame_of}
 
 pub IsFrame-built : (destination source prio vid number size : ℕ) → prio < 8 → vid < 4096 → 64 ≤ size → size ≤ GREATEST_FRAME
     → IsFrame (fields_built destination source prio vid number size) (frame_of destination source prio vid number size)

@@ -3,7 +3,7 @@ use Rattle.std.proofs.Common.{◌≡◌, ℕ, ◌+◌, ◌-◌, ◌*◌, ◌/◌
 use Rattle.std.proofs.lemmas.List.{take_at, drop_at, drop-drop, get_or-drop, take-append-drop, take_rest, length-take-le}
 use Rattle.std.specs.Int.{bytes_high_first}
 use Rattle.pre_crc.specs.Checks.{Fcs}
-use Rattle.pre_crc.specs.CheckFacts.{length-Fcs}
+use Rattle.pre_crc.proofs.CheckFacts.{length-Fcs}
 use Rattle.pre_frame.specs.Layout.{tag_type, tag_control}
 use Rattle.pre_frame.specs.FrameFields.{Fields, checked_of, HasFrameSize, EndsWithFcs, IsTagged, IsFrame, number_at, fields_at}
 use Rattle.pre_frame.proofs.Octets.{tag_control-lt, prio-of, vid-of, dei-of, tag_control-parts, two_octets, Placed, placed, six_more, in_row, at_place}

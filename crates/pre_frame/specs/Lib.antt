@@ -2,4 +2,3 @@ pub mod Layout
 pub mod FrameFields
 pub mod Views
 pub mod Built
-pub mod FrameFacts

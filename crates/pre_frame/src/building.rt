@@ -48,10 +48,19 @@ fn put_frame(frame: &mut [u8], header: &[u8; 18], number: FrameNo)
     ensures { frame.new ≡ with_check (header.now ++ payload_of number.0 (length frame.old - 22)) }
 {
     let end = frame.len() - CHECK;
-    frame[..HEADER].copy_from_slice(header);
-    put_payload(&mut frame[HEADER..end], number);
-    let check = fcs(&frame[..end]);
-    frame[end..].copy_from_slice(&check);
+    let (unchecked, check) = frame.split_at_mut(end);
+    put_unchecked(unchecked, header, number);
+    check.copy_from_slice(&fcs(unchecked));
+}
+
+// Writes a header and the payload of this number.
+fn put_unchecked(octets: &mut [u8], header: &[u8; 18], number: FrameNo)
+    requires { 22 ≤ length octets.old }
+    ensures { octets.new ≡ header.now ++ payload_of number.0 (length octets.old - 18) }
+{
+    let (front, payload) = octets.split_at_mut(HEADER);
+    front.copy_from_slice(header);
+    put_payload(payload, number);
 }
 
 // The octets before the payload.

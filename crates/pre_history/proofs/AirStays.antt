@@ -10,7 +10,7 @@ use Rattle.pre_history.specs.History.{PlainEvent, History, Begin}
 use Rattle.pre_history.specs.Selected.{active_on, begin_on}
 use Rattle.pre_history.specs.Queries.{Begins, Ends, packet, end_of}
 use Rattle.pre_history.specs.Octets.{ToldActive, WholeOf, Arrived, Air}
-use Rattle.pre_history.specs.Received.{Result}
+use Rattle.pre_history.specs.ArrivalResults.{Result}
 use Rattle.pre_history.specs.Placed.{number, IsAt}
 use Rattle.pre_history.specs.Legal.{LegalUpTo}
 use Rattle.pre_history.proofs.Lists.{at_front, every_at, every_weaker, there, within}

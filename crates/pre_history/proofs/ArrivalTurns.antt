@@ -12,7 +12,7 @@ use Rattle.pre_history.specs.Queries.{Begins, Ends, Arrivals}
 use Rattle.pre_history.specs.Comings.{next_arc}
 use Rattle.pre_history.specs.Rules.{Arriving, EventsOf, WithDelivery, delivered, arrival, HappensIn}
 use Rattle.pre_history.specs.Octets.{Air}
-use Rattle.pre_history.specs.Received.{Result}
+use Rattle.pre_history.specs.ArrivalResults.{Result}
 use Rattle.pre_history.specs.Placed.{number, AllAt, AllBefore}
 use Rattle.pre_history.specs.Ordered.{AreOrdered}
 use Rattle.pre_history.proofs.Lists.{there, within, one_at, every_at}

@@ -7,7 +7,7 @@ use Rattle.pre_history.specs.declared.events.Outcome.{Outcome}
 use Rattle.pre_history.specs.Scenario.{Scenario}
 use Rattle.pre_history.specs.History.{History, Ended}
 use Rattle.pre_history.specs.Octets.{Air}
-use Rattle.pre_history.specs.Received.{result_of, Result}
+use Rattle.pre_history.specs.ArrivalResults.{result_of, Result}
 use Rattle.pre_history.specs.Rules.{Arriving, EventsOf, WithDelivery}
 use Rattle.pre_history.proofs.Deciding.{IsOne}
 use Rattle.pre_history.specs.Selected.{is_frame_result}

@@ -3,7 +3,7 @@ use Rattle.std.proofs.Common.{ℕ, zero, suc, ◌≡◌, ◌≢◌, ◌⊎◌, �
 use Rattle.std.specs.Prelude.{MatchOption, ⊤, slice_get, Any}
 use Rattle.std.proofs.lemmas.Bool.{cases_lt}
 use Rattle.pre_mpacket.specs.Pieces.{IsBoundary, CutRule, least_fragment}
-use Rattle.pre_mpacket.specs.CutSizes.{cut_some}
+use Rattle.pre_mpacket.proofs.CutSizes.{cut_some}
 use Rattle.pre_history.specs.Scenario.{Scenario, arc}
 use Rattle.pre_history.specs.History.{History, Begin, Ended}
 use Rattle.pre_history.specs.Queries.{Packets, Waiting, IsUnderWay, Occupied}

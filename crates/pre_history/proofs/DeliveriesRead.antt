@@ -11,7 +11,7 @@ use Rattle.pre_history.specs.History.{PlainEvent, History, Begin, Ended, Arrive,
 use Rattle.pre_history.specs.Selected.{begin_on, arrive_on, frame_in}
 use Rattle.pre_history.specs.Queries.{Begins, Ends, Arrivals}
 use Rattle.pre_history.specs.Octets.{Air}
-use Rattle.pre_history.specs.Received.{Result}
+use Rattle.pre_history.specs.ArrivalResults.{Result}
 use Rattle.pre_history.specs.Comings.{frame_at, next_arc}
 use Rattle.pre_history.specs.Rules.{WithDelivery, delivered, arrival, HappensIn, Happens}
 use Rattle.pre_history.specs.Placed.{number, IsAt, AllAt}

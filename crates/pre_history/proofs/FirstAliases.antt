@@ -10,7 +10,7 @@ use Rattle.pre_history.specs.History.{PlainEvent, History, Ended, Arrive}
 use Rattle.pre_history.specs.Selected.{arrive_on}
 use Rattle.pre_history.specs.Queries.{Begins, Ends, Arrivals}
 use Rattle.pre_history.specs.Octets.{Air}
-use Rattle.pre_history.specs.Received.{Result}
+use Rattle.pre_history.specs.ArrivalResults.{Result}
 use Rattle.pre_history.specs.Rules.{WithDelivery, HappensIn, Happens}
 use Rattle.pre_history.specs.Placed.{number, IsAt, IsBefore, AllAt, moment_of}
 use Rattle.pre_history.specs.Legal.{LegalUpTo, Alias, LegalBefore, ArrivesAsAlias}

@@ -21,7 +21,7 @@ use Rattle.pre_history.specs.History.{History, Begin, Arrive}
 use Rattle.pre_history.specs.Selected.{is_lldp_result}
 use Rattle.pre_history.specs.Queries.{Begins, Arrivals, SettingOf}
 use Rattle.pre_history.specs.Octets.{Air}
-use Rattle.pre_history.specs.Received.{Result}
+use Rattle.pre_history.specs.ArrivalResults.{Result}
 use Rattle.pre_history.specs.LinkState.{Began, LldpBegan, Received, LldpReceived, IsHeard, Good, ActiveIn, Active, ActiveBefore, SettingBefore, IsWanting, VerifyWanted, RespondOwed, LldpWanted}
 use Rattle.pre_history.specs.Legal.{LegalUpTo}
 use Rattle.pre_history.proofs.Chosen.{from_filter, last_there}

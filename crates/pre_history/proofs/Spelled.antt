@@ -3,7 +3,7 @@ use Rattle.std.proofs.Common.{ℕ, ◌≡◌, ◌≤◌, List, ◌++◌, length,
 use Rattle.std.specs.Prelude.{slice_get, ◌↔◌, option_and_then}
 use Rattle.pre_base.specs.declared.limits.TheConstants.{GREATEST_DATA}
 use Rattle.pre_crc.specs.Checks.{Fcs}
-use Rattle.pre_crc.specs.CheckFacts.{length-Fcs}
+use Rattle.pre_crc.proofs.CheckFacts.{length-Fcs}
 use Rattle.pre_mpacket.specs.declared.packets.Kind.TheVariants as kind
 use Rattle.pre_mpacket.specs.Spelling.{PlainPacket, IsWhole, Spells, head_of, mpacket_of}
 use Rattle.pre_mpacket.specs.Arrivals.{Given, Gives, Spelled}

@@ -19,7 +19,7 @@ use Rattle.pre_history.specs.Octets.{Air}
 use Rattle.pre_history.specs.Starts.{Item, Choice, There, StartRule, whole_frame, IsFront, place}
 use Rattle.pre_history.specs.Comings.{Comings, frame_at, EntriesOf, sends_from, first_arc}
 use Rattle.pre_history.specs.Rules.{OneOrNone, EndDue, last_four, Arriving, WithDelivery, HappensIn, delivered}
-use Rattle.pre_history.specs.Received.{Result}
+use Rattle.pre_history.specs.ArrivalResults.{Result}
 use Rattle.pre_history.specs.Examples.{first_send, second_send, SendsTwoFrames, enters_ring, frame_begin, frame_end, frame_arrives, frame_delivery, two_frames_body}
 use Rattle.pre_history.proofs.Lists.{any_at, found_at}
 use Rattle.pre_history.proofs.Free.{packet_at}

@@ -4,10 +4,10 @@ use Rattle.std.specs.Prelude.{slice_get, if◌then◌else◌, option_map, fold}
 use Rattle.std.specs.List.{list_any}
 use Rattle.pre_base.specs.declared.numbers.FrameNo.{FrameNo}
 use Rattle.pre_crc.specs.Checks.{Fcs, Mcrc}
-use Rattle.pre_crc.specs.CheckFacts.{length-Fcs}
+use Rattle.pre_crc.proofs.CheckFacts.{length-Fcs}
 use Rattle.pre_frame.specs.Layout.{frame_of, header_of, address_of, tag_control, script_type, payload_of}
 use Rattle.pre_lldp.specs.LldpLayout.{is_lldp_frame}
-use Rattle.pre_frame.specs.FrameFacts.{length-frame_of}
+use Rattle.pre_frame.proofs.FrameFacts.{length-frame_of}
 use Rattle.pre_script.specs.declared.scripts.Damage.{Damage}
 use Rattle.pre_mpacket.specs.declared.packets.Kind.TheVariants as kind
 use Rattle.pre_mpacket.specs.Spelling.{head_of}

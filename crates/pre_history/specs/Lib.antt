@@ -6,7 +6,7 @@ pub mod Moments
 pub mod Selected
 pub mod Queries
 pub mod Octets
-pub mod Received
+pub mod ArrivalResults
 pub mod LinkState
 pub mod Starts
 pub mod Comings

@@ -6,7 +6,7 @@ use Rattle.pre_history.specs.Scenario.{Scenario, arc}
 use Rattle.pre_history.specs.History.{Ended, Arrive, Delivery, PlainEvent, History}
 use Rattle.pre_history.specs.Queries.{Begins, Ends, Arrivals, Occupied}
 use Rattle.pre_history.specs.Octets.{Air}
-use Rattle.pre_history.specs.Received.{Result}
+use Rattle.pre_history.specs.ArrivalResults.{Result}
 use Rattle.pre_history.specs.Starts.{Item, Choice, There}
 use Rattle.pre_history.specs.Comings.{Coming, Comings, EntriesOf, entry_event, frame_at, next_arc}
 use Rattle.pre_history.specs.Moments.{Phase}

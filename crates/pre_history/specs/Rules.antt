@@ -11,7 +11,7 @@ use Rattle.pre_history.specs.History.{Begin, Ended, PlainEvent, History}
 use Rattle.pre_history.specs.Selected.{is_frame_result}
 use Rattle.pre_history.specs.Queries.{Begins, Ends}
 use Rattle.pre_history.specs.Octets.{WholeOf, Air}
-use Rattle.pre_history.specs.Received.{Result}
+use Rattle.pre_history.specs.ArrivalResults.{Result}
 use Rattle.pre_history.specs.LinkState.{Active, ActiveBefore}
 use Rattle.pre_history.specs.Starts.{Choice, StartRule, SizeOf}
 use Rattle.pre_history.specs.Comings.{frame_at, next_arc, Comings, EntriesOf}

@@ -6,7 +6,7 @@ use Rattle.pre_history.specs.Scenario.{Scenario}
 use Rattle.pre_history.specs.History.{Begin, History}
 use Rattle.pre_history.specs.Queries.{Begins, Ends}
 use Rattle.pre_history.specs.Octets.{WholeOf, Air}
-use Rattle.pre_history.specs.Received.{Result}
+use Rattle.pre_history.specs.ArrivalResults.{Result}
 
 module _ (w : Scenario) (g h : History) (a : ℕ) where
   -- What each mPacket that began on the arc carries is the same by g as by h.

@@ -13,7 +13,7 @@ use Rattle.pre_history.specs.History.{Ended, History}
 use Rattle.pre_history.specs.Selected.{ended_on, arrive_on}
 use Rattle.pre_history.specs.Queries.{Ends, Arrivals}
 use Rattle.pre_history.specs.Octets.{Air}
-use Rattle.pre_history.specs.Received.{Result}
+use Rattle.pre_history.specs.ArrivalResults.{Result}
 use Rattle.pre_history.specs.Rules.{HappensIn, WithDelivery, arrival}
 use Rattle.pre_history.specs.Legal.{Alias, ArrivesAsAlias, LegalBefore}
 use Rattle.pre_history.proofs.ArrivalTurns.{one_arrival}

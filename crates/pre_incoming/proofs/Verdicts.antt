@@ -13,7 +13,7 @@ use Rattle.pre_history.specs.History.{Begin, Ended, History}
 use Rattle.pre_history.specs.Selected.{frame_in}
 use Rattle.pre_history.specs.Queries.{Begins, Ends, Arrivals}
 use Rattle.pre_history.specs.Octets.{Air, WholeOf, whole_of, AdvertAt}
-use Rattle.pre_history.specs.Received.{Result}
+use Rattle.pre_history.specs.ArrivalResults.{Result}
 use Rattle.pre_history.specs.Comings.{frame_at}
 use Rattle.pre_history.specs.Rules.{WithDelivery, arrival}
 use Rattle.pre_history.specs.Legal.{Alias, IsOfKind, IsLastOf, LegalUpTo}

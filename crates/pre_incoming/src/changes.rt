@@ -8,7 +8,7 @@ use pre_mpacket::Kind;
 use pre_script::Script;
 
 /// Whether a line of the script loses this mPacket of the arc.
-pub(crate) fn is_lost(script: &Script, arc: ArcId, ordinal: u64) -> bool
+pub fn is_lost(script: &Script, arc: ArcId, ordinal: u64) -> bool
     ensures { result ≡ loses script.now arc.0 ordinal }
 {
     script
@@ -19,7 +19,7 @@ pub(crate) fn is_lost(script: &Script, arc: ArcId, ordinal: u64) -> bool
 }
 
 /// The place of the start mPacket delimiter in an mPacket's octets (IEEE 802.3, 99.3).
-pub(crate) fn smd_place(kind: Kind) -> u64
+pub fn smd_place(kind: Kind) -> u64
     ensures { result ≡ octets_of.smd_place kind }
 {
     match kind {
@@ -29,7 +29,7 @@ pub(crate) fn smd_place(kind: Kind) -> u64
 }
 
 /// Applies each line of the script that damages this mPacket of the arc, whose start mPacket delimiter stands at `smd`.
-pub(crate) fn damage(script: &Script, arc: ArcId, ordinal: u64, smd: u64, octets: &mut [u8])
+pub fn damage(script: &Script, arc: ArcId, ordinal: u64, smd: u64, octets: &mut [u8])
     ensures { octets.new ≡ damaged script.now arc.0 ordinal smd octets.old }
 {
     for line in script.damages.as_slice() {

@@ -9,6 +9,7 @@ mod landings;
 mod laws;
 mod wires;
 
+pub use changes::{damage, is_lost, smd_place};
 pub use frames::{Inputs, put_frame};
 pub use incomings::Incoming;
 pub use landings::{Landed, Landing};

@@ -13,7 +13,7 @@ use Rattle.pre_history.specs.History.{PlainEvent, History, Begin, Ended, Arrive,
 use Rattle.pre_history.specs.Selected.{begin_on, arrive_on, delivery_of, frame_in, is_frame_result}
 use Rattle.pre_history.specs.Queries.{Begins, Ends, Arrivals, Deliveries}
 use Rattle.pre_history.specs.Octets.{Air}
-use Rattle.pre_history.specs.Received.{Result}
+use Rattle.pre_history.specs.ArrivalResults.{Result}
 use Rattle.pre_history.specs.Comings.{hops, frame_at, next_arc}
 use Rattle.pre_history.specs.Rules.{HappensIn, EventsOf, WithDelivery, delivered, arrival}
 use Rattle.pre_history.specs.Placed.{HasPlace, number, IsAt, AllAt}

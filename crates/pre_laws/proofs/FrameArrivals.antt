@@ -11,7 +11,7 @@ use Rattle.pre_history.specs.Scenario.{Scenario, arc, FrameOf}
 use Rattle.pre_history.specs.History.{History, Begin, Ended, Arrive}
 use Rattle.pre_history.specs.Queries.{Begins, Ends, Arrivals}
 use Rattle.pre_history.specs.Octets.{Air, whole_of, WholeOf, AdvertAt}
-use Rattle.pre_history.specs.Received.{Result, result_of}
+use Rattle.pre_history.specs.ArrivalResults.{Result, result_of}
 use Rattle.pre_history.specs.Legal.{LegalBefore, Alias}
 use Rattle.pre_history.proofs.Lists.{there, within}
 use Rattle.pre_history.proofs.InOrder.{steady}

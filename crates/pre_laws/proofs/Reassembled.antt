@@ -4,7 +4,7 @@ use Rattle.std.specs.Prelude.{if◌then◌else◌, slice_get, unwrap_or, option_
 use Rattle.std.proofs.lemmas.List.{append-nil, map-append, length-take-le, length-drop}
 use Rattle.pre_base.specs.declared.numbers.FrameNo.{FrameNo}
 use Rattle.pre_crc.specs.Checks.{Fcs, Mcrc}
-use Rattle.pre_crc.specs.CheckFacts.{length-Fcs, length-Mcrc}
+use Rattle.pre_crc.proofs.CheckFacts.{length-Fcs, length-Mcrc}
 use Rattle.pre_frame.specs.Layout.{address_of}
 use Rattle.pre_lldp.specs.LldpLayout.{lldp_frame, padded, nearest_bridge, lldp_type, lldpdu_of}
 use Rattle.pre_mpacket.specs.declared.packets.Kind.{Kind}
@@ -82,7 +82,7 @@ module _ (w : Scenario) (routed : IsRouted w) (n : ℕ) (h : History) (legal : L
       go Item.lldp (on, wanted, by) = absurd (cc (sym is ∙ ap (λ (c : Choice). c.kind) by))
       go Item.rest (left, interrupted, by) = absurd (cc (sym is ∙ ap (λ (c : Choice). c.kind) by))
 
-  counts : (m : ℕ) (d : Begin) → slice_get (Begins h a) m ≡ Some d → HasCounts d.kind
+  pub counts : (m : ℕ) (d : Begin) → slice_get (Begins h a) m ≡ Some d → HasCounts d.kind
   counts m d at = go d.kind refl
     where
       continued : (c i : ℕ) → d.kind ≡ kind.Continue c i → Joins w routed n h legal a a_lt m d → (c < 4) × (i < 4)

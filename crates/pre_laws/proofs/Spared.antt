@@ -4,7 +4,7 @@ use Rattle.std.specs.Prelude.{slice_get, if◌then◌else◌, option_map, option
 use Rattle.std.specs.List.{list_any, AllByRecursion as Every}
 use Rattle.pre_base.specs.declared.numbers.FrameNo.{FrameNo}
 use Rattle.pre_crc.specs.Checks.{Fcs}
-use Rattle.pre_crc.specs.CheckFacts.{length-Fcs}
+use Rattle.pre_crc.proofs.CheckFacts.{length-Fcs}
 use Rattle.std.proofs.lemmas.Bool.Decides.{nat_tests}
 use Rattle.pre_script.specs.declared.scripts.Damage.{Damage}
 use Rattle.pre_script.specs.declared.scripts.Loss.{Loss}
@@ -18,7 +18,7 @@ use Rattle.pre_history.specs.History.{History, Begin, Ended, Arrive}
 use Rattle.pre_history.specs.Selected.{what_is}
 use Rattle.pre_history.specs.Queries.{Begins, Ends, Arrivals, packet, end_of}
 use Rattle.pre_history.specs.Octets.{SentOctets, Damaged, is_lost, names_loss, names_damage, xored, smd_place, Arrived, Air}
-use Rattle.pre_history.specs.Received.{Result, result_of}
+use Rattle.pre_history.specs.ArrivalResults.{Result, result_of}
 use Rattle.pre_history.specs.Legal.{LegalUpTo, Spared}
 use Rattle.pre_history.proofs.Lists.{every_at, filter_nil}
 use Rattle.pre_history.proofs.Undamaged.{user_of, user_frame, length-FrameOf, air_at, whole_sent}

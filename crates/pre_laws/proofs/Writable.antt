@@ -6,7 +6,7 @@ use Rattle.std.proofs.Math.Nat.{min-le_left}
 use Rattle.std.proofs.Math.Seq.{drop-append_seam}
 use Rattle.pre_base.specs.declared.numbers.FrameNo.{FrameNo}
 use Rattle.pre_crc.specs.Checks.{Fcs, Mcrc}
-use Rattle.pre_crc.specs.CheckFacts.{length-Fcs, length-Mcrc}
+use Rattle.pre_crc.proofs.CheckFacts.{length-Fcs, length-Mcrc}
 use Rattle.pre_crc.proofs.CheckFacts.{Fcs-octets, Mcrc-octets}
 use Rattle.pre_frame.proofs.BuiltLaws.{frame_of-octets}
 use Rattle.pre_lldp.specs.declared.adverts.Advert.{Advert}

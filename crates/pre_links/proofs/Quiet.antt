@@ -7,7 +7,7 @@ use Rattle.pre_topo.specs.declared.arcs.Mode.TheVariants as mode
 use Rattle.pre_topo.specs.Arcs.{reverse_of}
 use Rattle.pre_lldp.specs.LinkState as link
 use Rattle.pre_verify.specs.Calls.{good_of}
-use Rattle.pre_verify.specs.Verifiers.{IsBefore, IsBy}
+use Rattle.pre_verify.specs.Verifiers.{IsBelow, IsBy}
 use Rattle.pre_history.specs.declared.events.Outcome.TheVariants as outcome
 use Rattle.pre_history.specs.Scenario.{Scenario, arc}
 use Rattle.pre_history.specs.History.{Arrive, Begin, History}
@@ -25,7 +25,7 @@ use Rattle.pre_links.proofs.Computed.{respond_is}
 use Rattle.pre_links.proofs.Early.{begun_early}
 use Rattle.pre_links.proofs.Staying.{decides_like}
 
-by_then : (o : Option ℕ) (t u : ℕ) → IsBefore o (t + 1) → t ≤ u → IsBy o u
+by_then : (o : Option ℕ) (t u : ℕ) → IsBelow o (t + 1) → t ≤ u → IsBy o u
 by_then None t u before le = tt
 by_then (Some s) t u before le = omega (arith, before, le)
 

@@ -58,11 +58,11 @@ told t a (Some active) = PlainEvent.active t a active ∷ []
 
 -- The tick can be settled: no later one was handed in, and neither it nor a later one was settled.
 abbrev pub IsReady : Link → ℕ → Type 0
-IsReady state t = (state.verifier.latest.0 ≤ t) × verifiers.IsBefore (option_map (λ s. s.0) state.verifier.settled) t
+IsReady state t = (state.verifier.latest.0 ≤ t) × verifiers.IsBelow (option_map (λ s. s.0) state.verifier.settled) t
 
 -- No later tick was handed in or settled.
 abbrev pub IsUpTo : Link → ℕ → Type 0
-IsUpTo state t = (state.verifier.latest.0 ≤ t) × verifiers.IsBefore (option_map (λ s. s.0) state.verifier.settled) (t + 1)
+IsUpTo state t = (state.verifier.latest.0 ≤ t) × verifiers.IsBelow (option_map (λ s. s.0) state.verifier.settled) (t + 1)
 
 -- A verify may begin: one is wanted, and none is under way.
 abbrev pub may_verify : Link → ℕ → Bool

@@ -242,7 +242,7 @@ fn ttl_under(setting: Setting, ttl: u16) -> u16
 // answers whether it is verified then.
 fn settle_verifier(verifier: &mut Verifier, now: Tick, good: bool, responds: bool) -> bool
     requires order { verifier.old.latest.0 ≤ now.0 }
-    requires later { verifiers.IsBefore (option_map (λ tick. tick.0) verifier.old.settled) now.0 }
+    requires later { verifiers.IsBelow (option_map (λ tick. tick.0) verifier.old.settled) now.0 }
     ensures latest { verifier.new.latest ≡ now }
     ensures settled { verifier.new.settled ≡ Some now }
     ensures stands { (wait : ℕ) (calls : List Call) → verifiers.Stands verifier.old wait calls

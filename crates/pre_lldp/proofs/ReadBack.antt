@@ -5,7 +5,7 @@ use Rattle.std.proofs.lemmas.List.{take_at, length-replicate}
 use Rattle.std.proofs.lemmas.Fmt.{length-decimal-le, decimal_nonempty}
 use Rattle.std.specs.Int.{bytes_high_first}
 use Rattle.pre_crc.specs.Checks.{Fcs}
-use Rattle.pre_crc.specs.CheckFacts.{length-Fcs}
+use Rattle.pre_crc.proofs.CheckFacts.{length-Fcs}
 use Rattle.pre_frame.specs.Layout.{address_of}
 use Rattle.pre_lldp.specs.declared.adverts.Advert.{Advert}
 use Rattle.pre_lldp.specs.Tlvs.{octets_of, is_capabilities, has_place, has_length, fault_of}

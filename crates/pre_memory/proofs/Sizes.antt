@@ -5,7 +5,7 @@ use Rattle.std.proofs.lemmas.List.{length-take-le, length-drop}
 use Rattle.std.proofs.lemmas.List.Elements.{All-from_recursion}
 use Rattle.pre_base.specs.declared.limits.TheConstants.{GREATEST_FRAME}
 use Rattle.pre_crc.specs.Checks.{Mcrc}
-use Rattle.pre_crc.specs.CheckFacts.{length-Mcrc}
+use Rattle.pre_crc.proofs.CheckFacts.{length-Mcrc}
 use Rattle.pre_lldp.proofs.ReadBack.{sent-length}
 use Rattle.pre_mpacket.specs.declared.packets.Kind.{Kind}
 use Rattle.pre_mpacket.specs.declared.packets.Kind.TheVariants as kind

@@ -4,7 +4,7 @@ use Rattle.std.specs.Prelude.{◌↔◌, true}
 use Rattle.std.proofs.lemmas.List.{append-nil}
 use Rattle.pre_base.specs.declared.limits.TheConstants.{GREATEST_DATA}
 use Rattle.pre_crc.specs.Checks.{Fcs, Mcrc}
-use Rattle.pre_crc.specs.CheckFacts.{length-Fcs}
+use Rattle.pre_crc.proofs.CheckFacts.{length-Fcs}
 use Rattle.pre_mpacket.specs.Spelling.{PlainPacket}
 use Rattle.pre_mpacket.specs.Pieces.{joined, last_check, IsContinued, IsSequence, IsChecked, Carries}
 use Rattle.pre_mpacket.specs.Arrivals.{Given, is_start, is_fragment, fragments_of, HasKind, Spelled, Fragments, Data, Chain, Gives}

@@ -11,3 +11,4 @@ pub mod Rows
 pub mod Decisions
 pub mod GivenDecided
 pub mod CountersFound
+pub mod CutSizes

@@ -1,6 +1,5 @@
 pub mod Spelling
 pub mod Pieces
-pub mod CutSizes
 pub mod Arrivals
 pub mod Open
 pub mod Counters

@@ -4,10 +4,10 @@ use Rattle.std.specs.Prelude.{if◌then◌else◌, is_some, ◌↔◌, IsTrue}
 use Rattle.std.proofs.lemmas.Bool.Decides.{eqb_tells}
 use Rattle.pre_rings.specs.declared.slots.FrameRef.{FrameRef}
 use Rattle.pre_send.specs.Calls.{Chosen, express, whole, first, rest, verify, respond, lldp}
-use Rattle.pre_send.specs.Sendings.{Sending, Part, held, octets_at, interrupted, Follows}
+use Rattle.pre_send.specs.Sendings.{Sending, Part, held, slot_octets, interrupted, Follows}
 use Rattle.pre_send.specs.Endings.{done_of, done_by, done_rest}
 use Rattle.pre_send.specs.Frames.{frame_of_part, frame_by}
-use Rattle.pre_send.specs.Packets.{rest_of, packet_by, packet_after}
+use Rattle.pre_send.specs.Packets.{rest_packet, packet_by, packet_after}
 use Rattle.pre_history.specs.declared.events.What.{What}
 use Rattle.pre_history.specs.declared.events.What.TheVariants as what
 use Rattle.pre_history.specs.Scenario.{Scenario, FrameOf}
@@ -46,14 +46,14 @@ module _ (w : Scenario) (h : History) (p : Sending) (older : List Sending) (b : 
 
     by_choice : (ch : Chosen) → p.told.chosen ≡ ch → Follows cost add_frag ch older p → (packet_by ch (interrupted older) p store other).mdata ≡ Data
     by_choice (express f) is (kind_is, from, size) =
-        in_part 0 (FrameOf w f.frame.0) (octets_at store f.slot) (sym from ∙ fits.from) (ap held (stored_by (express f) is)) (ap (whole_of w h b) (carries (express f) is))
+        in_part 0 (FrameOf w f.frame.0) (slot_octets store f.slot) (sym from ∙ fits.from) (ap held (stored_by (express f) is)) (ap (whole_of w h b) (carries (express f) is))
     by_choice (whole f) is (kind_is, from, size) =
-        in_part 0 (FrameOf w f.frame.0) (octets_at store f.slot) (sym from ∙ fits.from) (ap held (stored_by (whole f) is)) (ap (whole_of w h b) (carries (whole f) is))
+        in_part 0 (FrameOf w f.frame.0) (slot_octets store f.slot) (sym from ∙ fits.from) (ap held (stored_by (whole f) is)) (ap (whole_of w h b) (carries (whole f) is))
     by_choice (first f) is (kind_is, from, cut) =
-        in_part p.from (FrameOf w f.frame.0) (octets_at store f.slot) fits.from (ap held (stored_by (first f) is)) (ap (whole_of w h b) (carries (first f) is))
+        in_part p.from (FrameOf w f.frame.0) (slot_octets store f.slot) fits.from (ap held (stored_by (first f) is)) (ap (whole_of w h b) (carries (first f) is))
     by_choice rest is (x, interrupts, kind_is, from, cut) =
-        ap (λ o. (rest_of o p store).mdata) interrupts
-        ∙ in_part p.from (FrameOf w x.frame.frame.0) (octets_at store x.frame.slot) fits.from (ap held (subst (λ o. IsStored w (frame_of_part o) store) interrupts (stored_by rest is)))
+        ap (λ o. (rest_packet o p store).mdata) interrupts
+        ∙ in_part p.from (FrameOf w x.frame.frame.0) (slot_octets store x.frame.slot) fits.from (ap held (subst (λ o. IsStored w (frame_of_part o) store) interrupts (stored_by rest is)))
         (ap (whole_of w h b) (of_rest x is interrupts))
     by_choice verify is (kind_is, from, size) =
         ap (λ n. take (n - 4) BareOctets) (sym size) ∙ in_part 0 BareOctets BareOctets (sym from ∙ fits.from) refl (ap (whole_of w h b) (carries verify is))
@@ -74,7 +74,7 @@ module _ (w : Scenario) (h : History) (p : Sending) (older : List Sending) (b : 
         go (first f) is = refl
         go rest is = of_part (interrupted older)
           where
-            of_part : (o : Option Part) → (rest_of o p store).kind ≡ p.kind
+            of_part : (o : Option Part) → (rest_packet o p store).kind ≡ p.kind
             of_part None = refl
             of_part (Some x) = refl
         go verify is = refl

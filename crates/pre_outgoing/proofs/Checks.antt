@@ -7,9 +7,9 @@ use Rattle.pre_crc.specs.Checks.{Mcrc}
 use Rattle.pre_rings.specs.declared.slots.FrameRef.{FrameRef}
 use Rattle.pre_rings.specs.Stores.{HoldsAt}
 use Rattle.pre_send.specs.Calls.{Chosen, express, whole, first, rest, verify, respond, lldp}
-use Rattle.pre_send.specs.Sendings.{Sending, Part, held, octets_at, part_at, interrupted, IsCut, Follows}
+use Rattle.pre_send.specs.Sendings.{Sending, Part, held, slot_octets, part_at, interrupted, IsCut, Follows}
 use Rattle.pre_send.specs.Frames.{frame_of_part, frame_by}
-use Rattle.pre_send.specs.Packets.{check_at, fragment_of, rest_of, packet_by, packet_after}
+use Rattle.pre_send.specs.Packets.{check_at, fragment_of, rest_packet, packet_by, packet_after}
 use Rattle.pre_history.specs.declared.events.What.TheVariants as what
 use Rattle.pre_history.specs.Scenario.{Scenario, FrameOf}
 use Rattle.pre_history.specs.History.{History, Begin}
@@ -58,7 +58,7 @@ module _ (w : Scenario) (h : History) (p : Sending) (older : List Sending) (b : 
         ] in
         ap Mcrc (ap (λ x. x ++ part_at F p.from p.size) same ∙ (sym (take-add p.from (p.size - 4) F) ∙ ap (λ n. take n F) place))
 
-    pub of_fragment : (fragment_of f (octets_at store f.slot) before p).check ≡ CheckOf w h b p.size
+    pub of_fragment : (fragment_of f (slot_octets store f.slot) before p).check ≡ CheckOf w h b p.size
     unfolding F
     of_fragment =
         ap (λ o. check_at (p.from + p.size == f.size) o (p.from + (p.size - 4)) (before ++ part_at o p.from p.size)) (ap held stored)
@@ -94,7 +94,7 @@ module _ (w : Scenario) (h : History) (p : Sending) (older : List Sending) (b : 
         (subst (λ c. IsStored w (frame_by c (interrupted older)) store) is stored) (sym (ap (λ n. take n (FrameOf w f.frame.0)) from)) (omega (arith, from)) cut (inl from)
     by_choice rest is (y, interrupts, kind_is, from, cut) =
         let k = kept y interrupts in
-        ap (λ o. (rest_of o p store).check) interrupts
+        ap (λ o. (rest_packet o p store).check) interrupts
         ∙ of_fragment y.frame y.so_far (y.frame.size - y.place) store (fits.carries ∙ (ap (λ c. what_of c (interrupted older)) is ∙ ap (λ o. what_of_frame (frame_of_part o)) interrupts))
         (subst (λ o. IsSized w (frame_of_part o)) interrupts (subst (λ c. IsSized w (frame_by c (interrupted older))) is fits.sized))
         (subst (λ o. IsStored w (frame_of_part o) store) interrupts (subst (λ c. IsStored w (frame_by c (interrupted older)) store) is stored))

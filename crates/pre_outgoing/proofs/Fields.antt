@@ -12,7 +12,7 @@ use Rattle.pre_send.specs.declared.senders.Sender.{Sender}
 use Rattle.pre_send.specs.Calls.{Call, Chosen, express, whole, first, rest, verify, respond, lldp, End, told_by}
 use Rattle.pre_send.specs.Sendings.{Sending, Part, interrupted, Follows, HasGap, AreSent, IsSending, IsFree}
 use Rattle.pre_send.specs.Answers.{EndsAt, PlannedEnd, IsInterrupted, kept_part}
-use Rattle.pre_send.specs.Endings.{HoldsTask, HoldsGoing, Holds, plans_end}
+use Rattle.pre_send.specs.Endings.{HoldsTask, HoldsGoing, HoldsUnderWay, plans_end}
 use Rattle.pre_send.specs.Frames.{frame_of_part, frame_by}
 use Rattle.pre_send.specs.Lendings.{LendsTask, LendsGoing, Lends}
 use Rattle.pre_send.specs.Owned.{frames_of_task, frames_going, frames_kept, frames_of}
@@ -81,8 +81,8 @@ planned_at s cost add_frag calls packets due stands sending is =
 
 -- ---- what it is lent
 
-pub holds_of : (s : Sender) (store : List (Option (List ℕ))) → AreHeld store (frames_of s) → Holds s store
-unfolding frames_of Holds
+pub holds_of : (s : Sender) (store : List (Option (List ℕ))) → AreHeld store (frames_of s) → HoldsUnderWay s store
+unfolding frames_of HoldsUnderWay
 holds_of s store held = go s.going held
   where
     by_task : (x : Task) → AreHeld store (frames_of_task x ++ frames_kept s.kept) → HoldsTask x store

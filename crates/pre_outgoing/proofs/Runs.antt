@@ -8,7 +8,7 @@ use Rattle.std.proofs.lemmas.List.Elements.{filter-append}
 use Rattle.std.proofs.lemmas.Grind.{flat_map-append}
 use Rattle.std.proofs.lemmas.Bool.Decides.{eqb_tells}
 use Rattle.pre_crc.specs.Checks.{Mcrc}
-use Rattle.pre_crc.specs.CheckFacts.{length-Mcrc}
+use Rattle.pre_crc.proofs.CheckFacts.{length-Mcrc}
 use Rattle.pre_mpacket.specs.declared.packets.Kind.{Kind}
 use Rattle.pre_mpacket.specs.declared.packets.Kind.TheVariants as kind
 use Rattle.pre_mpacket.specs.Arrivals.{is_start, is_fragment}

@@ -5,7 +5,7 @@ use Rattle.std.proofs.Math.Nat.{not-le_of_lt}
 use Rattle.std.proofs.lemmas.Bool.{cases_lt}
 use Rattle.std.proofs.lemmas.List.{length-append}
 use Rattle.std.proofs.lemmas.List.Sums.{fold-append}
-use Rattle.pre_mpacket.specs.CutSizes.{cut_some}
+use Rattle.pre_mpacket.proofs.CutSizes.{cut_some}
 use Rattle.pre_send.specs.Calls.{Call, Chosen, express, whole, first, rest, verify, respond, lldp, waited, End, Told, waits_from, tells, told_by}
 use Rattle.pre_send.specs.Sendings.{Sending, Waits, IsCut, Follows, IsSending}
 use Rattle.pre_history.specs.Scenario.{Scenario, arc}

@@ -13,7 +13,7 @@ use Rattle.pre_receive.specs.declared.receivers.Receiver.{Receiver}
 use Rattle.pre_receive.specs.Takings.{IsTaken}
 use Rattle.pre_receive.specs.Counts.{last_count, Count, is_frame, is_nothing, is_ass_error, is_smd_error, is_ass_ok, is_frag_rx, raised, Raises}
 use Rattle.pre_receive.specs.Receivers.{taking}
-use Rattle.pre_receive.specs.PacketLaws.{PacketLaws}
+use Rattle.pre_receive.proofs.PacketLaws.{PacketLaws}
 
 -- the test tells whether it holds
 pub Tells : Bool → Type 0 → Type 0

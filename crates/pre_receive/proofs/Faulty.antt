@@ -8,8 +8,8 @@ use Rattle.pre_receive.specs.declared.opened.Opened.{Opened}
 use Rattle.pre_receive.specs.Causes.{Reason, no_delimiter, no_fragment_count, short, no_open_frame, other_frame_count, other_fragment_count, long, other_check, place_of, Breaks, HasReason, IsCause}
 use Rattle.pre_receive.specs.Faults.{fault_cause}
 use Rattle.pre_receive.specs.Takings.{IsTaken, gave_nothing}
-use Rattle.pre_receive.specs.Held.{Holds}
-use Rattle.pre_receive.specs.PacketLaws.{PacketLaws}
+use Rattle.pre_receive.specs.Held.{HoldsOpened}
+use Rattle.pre_receive.proofs.PacketLaws.{PacketLaws}
 use Rattle.pre_receive.proofs.Places.{last_get, last_spelled}
 
 module _ (laws : PacketLaws) (A : List (Option (List ℕ))) (a : List ℕ) (e : MFault) (first : IsFirstFault e a)
@@ -62,6 +62,6 @@ module _ (laws : PacketLaws) (A : List (Option (List ℕ))) (a : List ℕ) (e : 
   no_fragment : ¬ HasKind (A ++ Some a ∷ []) is_fragment (length A)
   no_fragment (m, at, is) = let gone = unspelled in cc (gone, at)
 
-  pub fault_holds : (w : Option Opened) (octets : List ℕ) → Holds w octets A → Holds w octets (A ++ Some a ∷ [])
+  pub fault_holds : (w : Option Opened) (octets : List ℕ) → HoldsOpened w octets A → HoldsOpened w octets (A ++ Some a ∷ [])
   fault_holds None octets shut = λ d n xs o. shut d n xs ((laws.other_opens A (Some a) d n xs no_fragment).0 o)
   fault_holds (Some w) octets h = ((laws.other_opens A (Some a) w.frame_count w.next octets no_fragment).1 h.0, h.1)

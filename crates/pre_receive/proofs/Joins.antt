@@ -19,10 +19,10 @@ use Rattle.pre_receive.specs.declared.outcomes.Outcome.TheVariants as outcome
 use Rattle.pre_receive.specs.declared.receivers.Receiver.{Receiver}
 use Rattle.pre_receive.specs.Causes.{Reason, no_delimiter, no_fragment_count, short, no_open_frame, other_frame_count, other_fragment_count, long, other_check, place_of, Breaks, MeetsOpen, IsLong, HasReason, IsCause}
 use Rattle.pre_receive.specs.Takings.{IsTaken}
-use Rattle.pre_receive.specs.Held.{Holds}
+use Rattle.pre_receive.specs.Held.{HoldsOpened}
 use Rattle.pre_receive.specs.Steps.{Opens, JoinedTo}
 use Rattle.pre_receive.specs.Receivers.{taking}
-use Rattle.pre_receive.specs.PacketLaws.{PacketLaws}
+use Rattle.pre_receive.proofs.PacketLaws.{PacketLaws}
 use Rattle.pre_receive.proofs.Places.{last_get, last_spelled}
 
 -- ---- reasons before a reason
@@ -236,12 +236,12 @@ module _ (laws : PacketLaws) (A : List (Option (List ℕ))) (a : List ℕ) (m : 
 
   -- nothing is open after data whose check isn't its Mcrc, or that is too long
   shut : (k : Kind) (c next : ℕ) (all : List ℕ) → Ends k c next all → ((length all ≤ GREATEST_DATA) → m.check ≢ Mcrc all) → (w : Option Opened) (octets : List ℕ) → w ≡ None
-      → Holds w octets (A ++ Some a ∷ [])
-  shut k c next all e none w octets is = subst (λ v. Holds v octets (A ++ Some a ∷ [])) (sym is)
+      → HoldsOpened w octets (A ++ Some a ∷ [])
+  shut k c next all e none w octets is = subst (λ v. HoldsOpened v octets (A ++ Some a ∷ [])) (sym is)
       (λ d n xs o. let h = (e.opens d n xs).0 o in let only = e.only xs h.2 in none (omega (arith, only.1, ap length only.0)) (h.3 ∙ ap Mcrc only.0))
 
   opened : (k : Kind) (c next : ℕ) (all : List ℕ) → Ends k c next all → length all ≤ GREATEST_DATA → m.check ≡ Mcrc all → (w : Option Opened) (octets : List ℕ)
-      → Opens w c next all → octets ≡ all → Holds w octets (A ++ Some a ∷ [])
+      → Opens w c next all → octets ≡ all → HoldsOpened w octets (A ++ Some a ∷ [])
   opened k c next all e le check None octets opens kept = absurd opens
   opened k c next all e le check (Some o) octets (count, n, stands) kept = (
     (e.opens o.frame_count o.next octets).1 (count, n, subst (EndsChain (A ++ Some a ∷ []) (length A)) (sym kept) (e.ends le), check ∙ ap Mcrc (sym kept)),
@@ -249,7 +249,7 @@ module _ (laws : PacketLaws) (A : List (Option (List ℕ))) (a : List ℕ) (m : 
   )
 
   pub joined_holds : (k : Kind) (c next : ℕ) (all : List ℕ) → Ends k c next all → (o : Outcome) (w : Option Opened) (octets : List ℕ)
-      → JoinedTo o c next all m.check w octets → Holds w octets (A ++ Some a ∷ [])
+      → JoinedTo o c next all m.check w octets → HoldsOpened w octets (A ++ Some a ∷ [])
   joined_holds k c next all e outcome.Joined w octets (le, check, none, kept) = shut k c next all e (λ fits part. laws.checks_differ all (sym check ∙ part)) w octets none
   joined_holds k c next all e outcome.Part w octets (le, check, opens, kept) = opened k c next all e le check w octets opens kept
   joined_holds k c next all e (outcome.Nothing x) w octets (none, inl (size, over)) = shut k c next all e (λ fits part. omega (arith, over, fits)) w octets none

@@ -7,3 +7,4 @@ pub mod OneTaken
 pub mod Lost
 pub mod LaterTaken
 pub mod Sizes
+pub mod PacketLaws

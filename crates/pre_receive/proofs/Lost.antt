@@ -6,9 +6,9 @@ use Rattle.pre_mpacket.specs.Arrivals.{is_fragment, HasCome, HasKind}
 use Rattle.pre_receive.specs.declared.opened.Opened.{Opened}
 use Rattle.pre_receive.specs.declared.outcomes.Outcome.TheVariants as outcome
 use Rattle.pre_receive.specs.declared.receivers.Receiver.{Receiver}
-use Rattle.pre_receive.specs.Held.{Holds}
+use Rattle.pre_receive.specs.Held.{HoldsOpened}
 use Rattle.pre_receive.specs.Receivers.{Stands}
-use Rattle.pre_receive.specs.PacketLaws.{PacketLaws}
+use Rattle.pre_receive.proofs.PacketLaws.{PacketLaws}
 use Rattle.pre_receive.proofs.Places.{last_get, last_spelled}
 use Rattle.pre_receive.proofs.Counting.{lost_told, counts_after}
 
@@ -19,7 +19,7 @@ module _ (laws : PacketLaws) (A : List (Option (List ℕ))) where
   not_come : ¬ HasCome (A ++ None ∷ []) (length A)
   not_come (octets, at) = let gone = last_get A None in cc (gone, at)
 
-  holds_lost : (w : Option Opened) (octets : List ℕ) → Holds w octets A → Holds w octets (A ++ None ∷ [])
+  holds_lost : (w : Option Opened) (octets : List ℕ) → HoldsOpened w octets A → HoldsOpened w octets (A ++ None ∷ [])
   holds_lost None octets shut = λ d n xs o. shut d n xs ((laws.other_opens A None d n xs (has_none is_fragment)).0 o)
   holds_lost (Some w) octets h = ((laws.other_opens A None w.frame_count w.next octets (has_none is_fragment)).1 h.0, h.1)
 

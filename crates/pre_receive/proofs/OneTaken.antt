@@ -3,7 +3,7 @@ use Rattle.std.proofs.Common.{ℕ, zero, suc, ◌≡◌, ◌⊎◌, ◌<◌, Lis
 use Rattle.pre_receive.specs.declared.taken.Cause.{Cause}
 use Rattle.pre_receive.specs.Causes.{Reason, no_delimiter, no_fragment_count, short, no_open_frame, other_frame_count, other_fragment_count, long, other_check, place_of, cause_of, IsCause}
 use Rattle.pre_receive.specs.Takings.{Taking, gave, gave_nothing, IsTaken}
-use Rattle.pre_receive.specs.PacketLaws.{PacketLaws}
+use Rattle.pre_receive.proofs.PacketLaws.{PacketLaws}
 
 reason_at : ℕ → Reason
 reason_at zero = no_delimiter

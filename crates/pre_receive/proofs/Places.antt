@@ -5,8 +5,8 @@ use Rattle.std.proofs.Math.Seq.{take-append_seam}
 use Rattle.pre_mpacket.specs.Spelling.{mpacket_of}
 use Rattle.pre_mpacket.specs.Arrivals.{Given, Spelled, IsOpenBefore}
 use Rattle.pre_receive.specs.declared.opened.Opened.{Opened}
-use Rattle.pre_receive.specs.Held.{Holds}
-use Rattle.pre_receive.specs.PacketLaws.{PacketLaws}
+use Rattle.pre_receive.specs.Held.{HoldsOpened}
+use Rattle.pre_receive.proofs.PacketLaws.{PacketLaws}
 
 pub last_get : (A : List (Option (List ℕ))) (a : Option (List ℕ)) → slice_get (A ++ a ∷ []) (length A) ≡ Some a
 last_get [] a = refl
@@ -37,11 +37,11 @@ open_less laws A B (j, lt, gives, none) =
     (j, lt, (laws.later_given A B j Given.part lt).0 gives, λ k past before m at. none k past before m (earlier_spelled A B k before ∙ at))
 
 -- the receiver knows whether a frame is open
-pub held_open : PacketLaws → (A B : List (Option (List ℕ))) (w : Option Opened) (octets : List ℕ) → Holds w octets A → is_some w ≡ true → IsOpenBefore (A ++ B) (length A)
+pub held_open : PacketLaws → (A B : List (Option (List ℕ))) (w : Option Opened) (octets : List ℕ) → HoldsOpened w octets A → is_some w ≡ true → IsOpenBefore (A ++ B) (length A)
 held_open laws A B None octets holds is = absurd (cc is)
 held_open laws A B (Some o) octets holds is = open_more laws A B ((laws.open_before A).1 (o.frame_count, o.next, octets, holds.0))
 
-pub held_shut : PacketLaws → (A B : List (Option (List ℕ))) (w : Option Opened) (octets : List ℕ) → Holds w octets A → is_some w ≡ false → ¬ IsOpenBefore (A ++ B) (length A)
+pub held_shut : PacketLaws → (A B : List (Option (List ℕ))) (w : Option Opened) (octets : List ℕ) → HoldsOpened w octets A → is_some w ≡ false → ¬ IsOpenBefore (A ++ B) (length A)
 held_shut laws A B None octets holds is before =
     let h = (laws.open_before A).0 (open_less laws A B before) in
     holds h.0 h.1 h.2 h.3

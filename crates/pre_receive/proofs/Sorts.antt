@@ -14,21 +14,21 @@ use Rattle.pre_receive.specs.declared.outcomes.Outcome.TheVariants as outcome
 use Rattle.pre_receive.specs.declared.receivers.Receiver.{Receiver}
 use Rattle.pre_receive.specs.Causes.{no_open_frame, other_frame_count, other_fragment_count, MeetsOpen, HasReason, IsCause}
 use Rattle.pre_receive.specs.Takings.{IsTaken}
-use Rattle.pre_receive.specs.Held.{Holds}
+use Rattle.pre_receive.specs.Held.{HoldsOpened}
 use Rattle.pre_receive.specs.Steps.{ExpressTo, BareTo, ContinuedTo}
 use Rattle.pre_receive.specs.Receivers.{taking, SortedTo}
-use Rattle.pre_receive.specs.PacketLaws.{PacketLaws}
+use Rattle.pre_receive.proofs.PacketLaws.{PacketLaws}
 use Rattle.pre_receive.proofs.Places.{those_before, open_more, open_less}
 use Rattle.pre_receive.proofs.Joins as joins
 
 module _ (laws : PacketLaws) (A : List (Option (List ℕ))) (a : List ℕ) (m : PlainPacket) (spells : Spells m a) (sound : (e : MFault) → ¬ IsFirstFault e a) where
   -- ---- what is no fragment
 
-  same_holds : (k : Kind) → m.kind ≡ k → is_fragment k ≡ false → (v w : Option Opened) (before octets : List ℕ) → Holds v before A → w ≡ v → octets ≡ before → Holds w octets (A ++ Some a ∷ [])
+  same_holds : (k : Kind) → m.kind ≡ k → is_fragment k ≡ false → (v w : Option Opened) (before octets : List ℕ) → HoldsOpened v before A → w ≡ v → octets ≡ before → HoldsOpened w octets (A ++ Some a ∷ [])
   same_holds k is other v w before octets holds same kept =
-      subst (λ x. Holds x octets (A ++ Some a ∷ [])) (sym same) (subst (λ l. Holds v l (A ++ Some a ∷ [])) (sym kept) (more v before holds))
+      subst (λ x. HoldsOpened x octets (A ++ Some a ∷ [])) (sym same) (subst (λ l. HoldsOpened v l (A ++ Some a ∷ [])) (sym kept) (more v before holds))
     where
-      more : (x : Option Opened) (l : List ℕ) → Holds x l A → Holds x l (A ++ Some a ∷ [])
+      more : (x : Option Opened) (l : List ℕ) → HoldsOpened x l A → HoldsOpened x l (A ++ Some a ∷ [])
       more None l none = λ d n xs o. none d n xs ((laws.other_opens A (Some a) d n xs (joins.kind_not laws A a m spells sound is_fragment k is other)).0 o)
       more (Some x) l h = ((laws.other_opens A (Some a) x.frame_count x.next l (joins.kind_not laws A a m spells sound is_fragment k is other)).1 h.0, h.1)
 
@@ -101,8 +101,8 @@ module _ (laws : PacketLaws) (A : List (Option (List ℕ))) (a : List ℕ) (m : 
   nothing_open c n is none = joins.fragment_nothing laws A a m spells sound (ap is_fragment is)
       (λ xs e. let h = (laws.continuation_joins A a xs m c n spells is).0 e in absurd (none h.0 h.1))
 
-  shut_after : (c n : ℕ) → m.kind ≡ kind.Continue c n → ((before : List ℕ) → ¬ IsOpen A c n before) → (w : Option Opened) (octets : List ℕ) → w ≡ None → Holds w octets (A ++ Some a ∷ [])
-  shut_after c n is none w octets same = subst (λ x. Holds x octets (A ++ Some a ∷ [])) (sym same)
+  shut_after : (c n : ℕ) → m.kind ≡ kind.Continue c n → ((before : List ℕ) → ¬ IsOpen A c n before) → (w : Option Opened) (octets : List ℕ) → w ≡ None → HoldsOpened w octets (A ++ Some a ∷ [])
+  shut_after c n is none w octets same = subst (λ x. HoldsOpened x octets (A ++ Some a ∷ [])) (sym same)
       (λ d p xs o.
       let h = (laws.continuation_opens A a xs m c n d p spells is).0 o in
       let j = (laws.continuation_joins A a xs m c n spells is).0 h.2 in
@@ -183,7 +183,7 @@ module _ (laws : PacketLaws) (A : List (Option (List ℕ))) (a : List ℕ) (m : 
     none_before = joins.before_open laws A a m spells sound;
   }
 
-  continued_taken : (c n : ℕ) → m.kind ≡ kind.Continue c n → (was : Option Opened) (before : List ℕ) → Holds was before A → (r : Receiver) (o : Outcome)
+  continued_taken : (c n : ℕ) → m.kind ≡ kind.Continue c n → (was : Option Opened) (before : List ℕ) → HoldsOpened was before A → (r : Receiver) (o : Outcome)
       → ContinuedTo o c n m.mdata m.check was before r.opened r.octets.items → IsTaken (A ++ Some a ∷ []) (length A) (taking r.whole.items r.octets.items o)
   continued_taken c n is None before none r o (same, shut) =
       subst (λ x. IsTaken (A ++ Some a ∷ []) (length A) (taking r.whole.items r.octets.items x)) (sym same) (nothing_open c n is (λ b. none c n b), no_frame_cause c n is none)
@@ -196,8 +196,8 @@ module _ (laws : PacketLaws) (A : List (Option (List ℕ))) (a : List ℕ) (m : 
   continued_taken c n is (Some w) before h r o (inr (inr (count, place, goes))) =
       joins.joined_taken laws A a m spells sound (kind.Continue c n) c ((n + 1) % 4) (before ++ m.mdata) (continues c n w.frame_count w.next is before h.0 count place) r o (goes h.1)
 
-  continued_holds : (c n : ℕ) → m.kind ≡ kind.Continue c n → (was : Option Opened) (before : List ℕ) → Holds was before A → (r : Receiver) (o : Outcome)
-      → ContinuedTo o c n m.mdata m.check was before r.opened r.octets.items → Holds r.opened r.octets.items (A ++ Some a ∷ [])
+  continued_holds : (c n : ℕ) → m.kind ≡ kind.Continue c n → (was : Option Opened) (before : List ℕ) → HoldsOpened was before A → (r : Receiver) (o : Outcome)
+      → ContinuedTo o c n m.mdata m.check was before r.opened r.octets.items → HoldsOpened r.opened r.octets.items (A ++ Some a ∷ [])
   continued_holds c n is None before none r o (same, shut) = shut_after c n is (λ b. none c n b) r.opened r.octets.items shut
   continued_holds c n is (Some w) before h r o (inl (same, other, shut)) = shut_after c n is (not_count c n w.frame_count w.next is before h.0 other) r.opened r.octets.items shut
   continued_holds c n is (Some w) before h r o (inr (inl (same, count, other, shut))) = shut_after c n is (not_place c n w.frame_count w.next is before h.0 other) r.opened r.octets.items shut
@@ -206,14 +206,14 @@ module _ (laws : PacketLaws) (A : List (Option (List ℕ))) (a : List ℕ) (m : 
 
   -- ---- each kind
 
-  pub sorted_taken : (k : Kind) → m.kind ≡ k → (old new : Receiver) (o : Outcome) → Holds old.opened old.octets.items A → SortedTo k o m.mdata m.check old new → IsTaken (A ++ Some a ∷ []) (length A) (taking new.whole.items new.octets.items o)
+  pub sorted_taken : (k : Kind) → m.kind ≡ k → (old new : Receiver) (o : Outcome) → HoldsOpened old.opened old.octets.items A → SortedTo k o m.mdata m.check old new → IsTaken (A ++ Some a ∷ []) (length A) (taking new.whole.items new.octets.items o)
   sorted_taken kind.Express is old new o holds s = express_taken is new o s.0
   sorted_taken kind.Verify is old new o holds s = verify_taken is new o s.0
   sorted_taken kind.Respond is old new o holds s = respond_taken is new o s.0
   sorted_taken (kind.Start c) is old new o holds s = joins.joined_taken laws A a m spells sound (kind.Start c) c 0 m.mdata (start_ends c is) new o s
   sorted_taken (kind.Continue c n) is old new o holds s = continued_taken c n is old.opened old.octets.items holds new o s
 
-  pub sorted_holds : (k : Kind) → m.kind ≡ k → (old new : Receiver) (o : Outcome) → Holds old.opened old.octets.items A → SortedTo k o m.mdata m.check old new → Holds new.opened new.octets.items (A ++ Some a ∷ [])
+  pub sorted_holds : (k : Kind) → m.kind ≡ k → (old new : Receiver) (o : Outcome) → HoldsOpened old.opened old.octets.items A → SortedTo k o m.mdata m.check old new → HoldsOpened new.opened new.octets.items (A ++ Some a ∷ [])
   sorted_holds kind.Express is old new o holds s = same_holds kind.Express is refl old.opened new.opened old.octets.items new.octets.items holds s.1 s.2
   sorted_holds kind.Verify is old new o holds s = same_holds kind.Verify is refl old.opened new.opened old.octets.items new.octets.items holds s.1 s.2
   sorted_holds kind.Respond is old new o holds s = same_holds kind.Respond is refl old.opened new.opened old.octets.items new.octets.items holds s.1 s.2

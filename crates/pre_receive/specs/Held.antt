@@ -9,6 +9,6 @@ abbrev pub IsOf : Opened → ℕ → ℕ → List ℕ → Type 0
 IsOf o frame_count next octets = (o.frame_count ≡ frame_count) × (o.next ≡ next) × register.Stands o.check octets
 
 -- it is the frame that is open after these arrivals, with these octets; where it is none, none is open
-abbrev pub Holds : Option Opened → List ℕ → List (Option (List ℕ)) → Type 0
-Holds None octets A = (frame_count next : ℕ) (all : List ℕ) → ¬ IsOpen A frame_count next all
-Holds (Some o) octets A = IsOpen A o.frame_count o.next octets × register.Stands o.check octets
+abbrev pub HoldsOpened : Option Opened → List ℕ → List (Option (List ℕ)) → Type 0
+HoldsOpened None octets A = (frame_count next : ℕ) (all : List ℕ) → ¬ IsOpen A frame_count next all
+HoldsOpened (Some o) octets A = IsOpen A o.frame_count o.next octets × register.Stands o.check octets

@@ -5,4 +5,3 @@ pub mod Held
 pub mod Counts
 pub mod Receivers
 pub mod Steps
-pub mod PacketLaws

@@ -7,12 +7,12 @@ use Rattle.pre_receive.specs.declared.outcomes.Outcome.{Outcome}
 use Rattle.pre_receive.specs.declared.outcomes.Outcome.TheVariants as outcome
 use Rattle.pre_receive.specs.declared.receivers.Receiver.{Receiver}
 use Rattle.pre_receive.specs.Takings.{Taking, gave, gave_nothing}
-use Rattle.pre_receive.specs.Held.{Holds}
+use Rattle.pre_receive.specs.Held.{HoldsOpened}
 use Rattle.pre_receive.specs.Counts.{Count}
 use Rattle.pre_receive.specs.Steps.{ExpressTo, BareTo, JoinedTo, ContinuedTo}
 
 pub record Stands (r : Receiver) (A : List (Option (List ℕ))) : Type 0 where
-  pub holds : Holds r.opened r.octets.items A
+  pub holds : HoldsOpened r.opened r.octets.items A
   pub counts : Count A r.counters
 
 -- an outcome as an answer, where the receiver keeps this frame that was sent whole, and this one that was joined

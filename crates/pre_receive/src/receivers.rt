@@ -6,7 +6,6 @@ ghost use Rattle.pre_receive.specs.Steps.{BareTo};
 ghost use Rattle.pre_receive.specs.Faults.{fault_cause};
 
 use crate::counters::{Counters, counted};
-use crate::laws::packet_laws;
 use crate::opened::Opened;
 use crate::outcomes::Outcome;
 use crate::taken::{Cause, Taken};
@@ -99,7 +98,6 @@ impl Receiver {
         ensures stands { (A : List (Option (List ℕ))) → Stands self.old A → Stands self.new (A ++ Some arrived.now ∷ []) }
         ensures taken { (A : List (Option (List ℕ))) → Stands self.old A → IsTaken (A ++ Some arrived.now ∷ []) (length A) (taking self.new.whole.items self.new.octets.items result) }
     {
-        packet_laws();
         let was_open = self.opened.is_some();
         match read_mpacket(arrived) {
             Err(fault) => {

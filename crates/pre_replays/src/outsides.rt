@@ -34,7 +34,8 @@ fn the_flush_fails(rt: HostRuntime) -> Result<(), Fail> {
 #[test]
 fn wrong_words(rt: HostRuntime) -> Result<(), Fail> {
     let alloc = rt.alloc();
-    let usage = "usage: preempt certify, judge, migrate, replay, mpackets, drill or dissect";
+    let usage =
+        "usage: preempt certify, judge, migrate, replay, mpackets, drill, capture or dissect";
     for text in [
         "",
         "replay",
@@ -46,6 +47,7 @@ fn wrong_words(rt: HostRuntime) -> Result<(), Fail> {
         "migrate pair pair cert script",
         "drill",
         "drill 1 2",
+        "capture pair pair script",
         "dissect",
         "drill 01",
         "drill x",

@@ -81,7 +81,8 @@ fn port_numbers(
     requires prio { prio < 8 }
     requires arc { arc.0 < length net.now.arcs }
     requires load { is_overloaded net.now rows.now arc.0 ≡ false }
-    ensures { let b = bursts_in bursts.now in let large = numbers_pass net.now rows.now b arc.0 prio in MatchOption result (large ≡ true) (λ row. (large ≡ false) × (row ≡ port_over net.now rows.now b arc.0 prio)) }
+    ensures { let b = bursts_in bursts.now in let large = numbers_pass net.now rows.now b arc.0 prio in
+        MatchOption result (large ≡ true) (λ row. (large ≡ false) × (row ≡ port_over net.now rows.now b arc.0 prio)) }
 {
     let cost = cost_at(net, arc);
     let block = cost * block_octets(net, rows, arc, prio);
@@ -171,7 +172,8 @@ pub(crate) fn port_over(
     requires prio { prio < 8 }
     requires arc { arc.0 < length net.now.arcs }
     requires load { is_overloaded net.now rows.now arc.0 ≡ false }
-    ensures { let b = bursts_in bursts.now in let large = passes_over net.now rows.now b arc.0 prio in MatchOption result (large ≡ true) (λ row. (large ≡ false) × (row ≡ port_over net.now rows.now b arc.0 prio)) }
+    ensures { let b = bursts_in bursts.now in let large = passes_over net.now rows.now b arc.0 prio in
+        MatchOption result (large ≡ true) (λ row. (large ≡ false) × (row ≡ port_over net.now rows.now b arc.0 prio)) }
 {
     let row = port_numbers(net, rows, bursts, arc, prio)?;
     if some_leaving_passes(net, rows, bursts, arc, prio, row.delay) {

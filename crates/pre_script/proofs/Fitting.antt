@@ -25,7 +25,8 @@ use Rattle.pre_script.specs.Seen.{Seen, nothing_seen, with_said, comes_last}
 use Rattle.pre_script.specs.Saying.{damage_said, four, lose_said, negotiates_at, one, three, two, said_by, send_said, send_of_size, set_said, setting_at, setting_of, until_said}
 use Rattle.pre_script.specs.Reading.{ReadsAs, after_line, after_lines, after_words, ended, is_comment, script_of, told, then_after, until_end}
 use Rattle.pre_script.specs.Fits.{Fits, IsDamage, IsLoss, IsSend, IsSet, SendsInOrder, SetsInOrder}
-use Rattle.pre_script.proofs.Values.{arc_known, at_most, below, both, number_below, octets_read}
+use Rattle.pre_script.proofs.Values.{arc_known, both, number_below, octets_read}
+use Rattle.pre_base.proofs.NumberTests.{at_most, below}
 
 given-Ok : {A B : Type 0} (o : Option A) (rule : ℕ) (next : A → Result B ℕ) (r : B) → given o rule next ≡ Ok r → (x : A) × (o ≡ Some x) × (next x ≡ Ok r)
 given-Ok None rule next r e = absurd cc

@@ -9,7 +9,8 @@ use Rattle.std.specs.List.{flat_map, position_or_len}
 use Rattle.std.specs.Result.{IsErr}
 use Rattle.pre_base.specs.Told.{WhereTold}
 use Rattle.pre_base.specs.Sinks.{Taken, TakesBut, TakesAll}
-use Rattle.pre_base.specs.Pieces.{TakesFront, breaks}
+use Rattle.pre_base.specs.Sinks.{TakesFront}
+use Rattle.pre_base.proofs.Pieces.{breaks}
 use Rattle.pre_script.specs.declared.scripts.SetLine.{SetLine}
 use Rattle.pre_script.specs.declared.scripts.Setting.TheVariants.{On}
 use Rattle.pre_script.specs.Text.{sets_before, sets_since}

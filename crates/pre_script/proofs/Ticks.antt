@@ -10,7 +10,8 @@ use Rattle.pre_script.specs.declared.scripts.SetLine.{SetLine}
 use Rattle.pre_script.specs.Seen.{Seen, comes_last}
 use Rattle.pre_script.specs.Fits.{IsSend, IsSet, SendsInOrder, SetsInOrder}
 use Rattle.pre_script.specs.Text.{sets_before, sets_since}
-use Rattle.pre_script.proofs.Values.{at_most, both}
+use Rattle.pre_script.proofs.Values.{both}
+use Rattle.pre_base.proofs.NumberTests.{at_most}
 
 -- each of a list, one by one
 abbrev pub Each : {X : Type 0} → (X → Type 0) → List X → Type 0

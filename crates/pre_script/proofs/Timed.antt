@@ -4,7 +4,8 @@ use Rattle.std.proofs.lemmas.List.{drop_more, drop_all}
 use Rattle.std.specs.Result.{IsErr}
 use Rattle.pre_base.specs.Told.{WhereTold}
 use Rattle.pre_base.specs.Sinks.{Taken, TakesBut, TakesAll}
-use Rattle.pre_base.specs.Pieces.{TakesFront, TakesWhole, breaks, goes_on}
+use Rattle.pre_base.specs.Sinks.{TakesFront, TakesWhole}
+use Rattle.pre_base.proofs.Pieces.{breaks, goes_on}
 use Rattle.pre_topo.specs.declared.network.Network.{Network}
 use Rattle.pre_streams.specs.declared.rows.Streams.{Streams}
 use Rattle.pre_script.specs.declared.scripts.SendLine.{SendLine}

@@ -17,17 +17,12 @@ use Rattle.pre_topo.specs.declared.network.Network.{Network}
 use Rattle.pre_topo.specs.declared.arcs.Arc.{Arc}
 use Rattle.pre_topo.specs.Names.{name_of_arc}
 use Rattle.pre_topo.specs.Named.{arc_named}
+use Rattle.pre_base.proofs.NumberTests.{at_most, below}
 
 pub both : (p q : Bool) → (p && q) ≡ true → (p ≡ true) × (q ≡ true)
 both true true e = (refl, refl)
 both true false e = absurd (false≢true e)
 both false q e = absurd (false≢true e)
-
-pub at_most : (m n : ℕ) → nat_le m n ≡ true → m ≤ n
-at_most m n e = grind (arith, nat_tests)
-
-pub below : (m n : ℕ) → nat_lt m n ≡ true → m < n
-below m n e = grind (arith, nat_tests)
 
 pub if-Some : {A : Type 0} (b : Bool) (x y : A) → (if b then Some x else None) ≡ Some y → (b ≡ true) × (x ≡ y)
 if-Some true x y e = (refl, cc)

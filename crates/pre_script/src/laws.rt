@@ -10,5 +10,6 @@ ghost use Rattle.pre_script.specs.Text.{script_text};
 
 /// The text that `put_script` writes of a script that fits is read as the same script, but for the numbers of its lines.
 pub fn script_reads_back()
-    ensures { (net : Network) (streams : Streams) (script : Script) → streams_rules.Fits net streams → Fits net streams script → (read : Script) × (script_of net streams (script_text net streams script) ≡ Ok read) × IsSame read script }
+    ensures { (net : Network) (streams : Streams) (script : Script) → streams_rules.Fits net streams → Fits net streams script
+        → (read : Script) × (script_of net streams (script_text net streams script) ≡ Ok read) × IsSame read script }
 {}

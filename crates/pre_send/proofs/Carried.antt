@@ -6,17 +6,17 @@ use Rattle.std.proofs.lemmas.List.{length-append, length-take-le, length-drop}
 use Rattle.std.proofs.lemmas.List.Elements.{All-nil, All-push}
 use Rattle.std.proofs.Math.Seq.{take-add}
 use Rattle.pre_crc.specs.Checks.{Mcrc}
-use Rattle.pre_crc.specs.CheckFacts.{length-Mcrc}
+use Rattle.pre_crc.proofs.CheckFacts.{length-Mcrc}
 use Rattle.pre_mpacket.specs.declared.packets.Kind.{Kind}
 use Rattle.pre_mpacket.specs.declared.packets.Kind.TheVariants as kind
 use Rattle.pre_mpacket.specs.Spelling.{PlainPacket, HasCounts, IsWhole}
 use Rattle.pre_mpacket.specs.Pieces.{joined, IsSequenceOf, least_fragment, Carries}
 use Rattle.pre_rings.specs.declared.slots.FrameRef.{FrameRef}
 use Rattle.pre_send.specs.Calls.{Chosen, express, whole, first, rest, verify, respond, lldp, End, Told}
-use Rattle.pre_send.specs.Sendings.{Sending, Part, held, octets_at, part_at, mdata_at, left_by, after_fragment, after_rest, part_after, interrupted, is_first, firsts, IsCut, Follows, AreSent}
+use Rattle.pre_send.specs.Sendings.{Sending, Part, held, slot_octets, part_at, mdata_at, left_by, after_fragment, after_rest, part_after, interrupted, is_first, firsts, IsCut, Follows, AreSent}
 use Rattle.pre_send.specs.Answers.{is_part}
 use Rattle.pre_send.specs.Endings.{done_of, done_rest, done_by}
-use Rattle.pre_send.specs.Packets.{check_at, fragment_of, rest_of, packet_by, frames_at, fragments_by, fragments}
+use Rattle.pre_send.specs.Packets.{check_at, fragment_of, rest_packet, packet_by, frames_at, fragments_by, fragments}
 use Rattle.pre_send.specs.Carrying.{IsHeld, HeldBy, EachHeld}
 use Rattle.pre_send.proofs.Joining.{AllChecked, AllLong, joined_push, sequence_push, checked_push, long_push, carried}
 
@@ -41,7 +41,7 @@ done_is p f g is = elim (eqb_tells (p.from + p.size) f.size) [
 ]
 
 -- the octets at its end
-held_octets : (f : FrameRef) (octets : List ℕ) (end : Option End) → IsHeld f octets end → octets_at (frames_at end) f.slot ≡ octets
+held_octets : (f : FrameRef) (octets : List ℕ) (end : Option End) → IsHeld f octets end → slot_octets (frames_at end) f.slot ≡ octets
 held_octets f octets None h = absurd h
 held_octets f octets (Some e) h = ap held h
 
@@ -161,7 +161,7 @@ module _ (cost add_frag : ℕ) (octets : List ℕ) where
     one_more lldp x follows is each size = unmoved x (earlier x is each size)
     one_more (first f) x follows is each size =
         let left = left_is (p.from + p.size == f.size) (part_made f [] 0 p) x is in
-        subst (λ (z : Part). IsHeld z.frame octets p.told.end → length octets ≡ z.frame.size → SoFar octets add_frag (1 + firsts older) (fragment_of f (octets_at store f.slot) [] p ∷ []) z) left.1
+        subst (λ (z : Part). IsHeld z.frame octets p.told.end → length octets ≡ z.frame.size → SoFar octets add_frag (1 + firsts older) (fragment_of f (slot_octets store f.slot) [] p ∷ []) z) left.1
         (λ h size_is. subst (λ (o : List ℕ). SoFar octets add_frag (1 + firsts older) (fragment_of f o [] p ∷ []) (part_made f [] 0 p)) (sym (held_octets f octets p.told.end h))
         (grown f [] 0 (1 + firsts older) f.size [] p (first_sequence f follows) (first_data f follows) tt tt none_whole (first_counts f follows) (omega (arith, follows.1)) size_is refl
         (first_data f follows) left.0 follows.2 h))
@@ -170,11 +170,11 @@ module _ (cost add_frag : ℕ) (octets : List ℕ) where
         let is_left : after_fragment y.frame y.so_far (suc y.continuations) p ≡ Some x = sym (ap (λ (o : Option Part). after_rest o p) interrupts) ∙ is in
         let left = left_is (p.from + p.size == y.frame.size) (part_made y.frame y.so_far (suc y.continuations) p) x is_left in
         subst (λ (z : Part). IsHeld z.frame octets p.told.end × EachHeld z.frame octets older → length octets ≡ z.frame.size
-        → SoFar octets add_frag (0 + firsts older) (fragments older ++ rest_of (interrupted older) p store ∷ []) z) left.1
+        → SoFar octets add_frag (0 + firsts older) (fragments older ++ rest_packet (interrupted older) p store ∷ []) z) left.1
         (λ h size_is.
         let so_far = earlier y interrupts h.1 size_is in
-        subst (λ (k : ℕ). SoFar octets add_frag k (fragments older ++ rest_of (interrupted older) p store ∷ []) (part_made y.frame y.so_far (suc y.continuations) p)) (omega arith)
-        (subst (λ (o : Option Part). SoFar octets add_frag (firsts older) (fragments older ++ rest_of o p store ∷ []) (part_made y.frame y.so_far (suc y.continuations) p)) (sym interrupts)
+        subst (λ (k : ℕ). SoFar octets add_frag k (fragments older ++ rest_packet (interrupted older) p store ∷ []) (part_made y.frame y.so_far (suc y.continuations) p)) (omega arith)
+        (subst (λ (o : Option Part). SoFar octets add_frag (firsts older) (fragments older ++ rest_packet o p store ∷ []) (part_made y.frame y.so_far (suc y.continuations) p)) (sym interrupts)
         (subst (λ (o : List ℕ). SoFar octets add_frag (firsts older) (fragments older ++ fragment_of y.frame o y.so_far p ∷ []) (part_made y.frame y.so_far (suc y.continuations) p))
         (sym (held_octets y.frame octets p.told.end h.0))
         (grown y.frame y.so_far (suc y.continuations) (firsts older) (y.frame.size - y.place) (fragments older) p (rest_sequence y so_far kind_is)
@@ -197,7 +197,7 @@ module _ (cost add_frag : ℕ) (octets : List ℕ) where
     last_one lldp x follows part is each size = absurd (cc part)
     last_one (first f) x follows part is each size =
         let done = done_is p f x is in
-        subst (λ (z : FrameRef). IsHeld z octets p.told.end → length octets ≡ z.size → Done z.size (fragment_of f (octets_at store f.slot) [] p ∷ [])) done.2
+        subst (λ (z : FrameRef). IsHeld z octets p.told.end → length octets ≡ z.size → Done z.size (fragment_of f (slot_octets store f.slot) [] p ∷ [])) done.2
         (λ h size_is. subst (λ (o : List ℕ). Done f.size (fragment_of f o [] p ∷ [])) (sym (held_octets f octets p.told.end h))
         (both (fragment_of f octets [] p ∷ []) f.size
         (ended f [] 0 (1 + firsts older) f.size [] p (first_sequence f follows) (first_data f follows) tt tt none_whole (first_counts f follows)
@@ -208,10 +208,10 @@ module _ (cost add_frag : ℕ) (octets : List ℕ) where
     last_one rest x (y, interrupts, kind_is, from, cut) part is each size =
         let is_done : done_of y.frame p ≡ Some x = sym (ap (λ (o : Option Part). done_rest o p) interrupts) ∙ is in
         let done = done_is p y.frame x is_done in
-        subst (λ (z : FrameRef). IsHeld z octets p.told.end × EachHeld z octets older → length octets ≡ z.size → Done z.size (fragments older ++ rest_of (interrupted older) p store ∷ [])) done.2
+        subst (λ (z : FrameRef). IsHeld z octets p.told.end × EachHeld z octets older → length octets ≡ z.size → Done z.size (fragments older ++ rest_packet (interrupted older) p store ∷ [])) done.2
         (λ h size_is.
         let so_far = earlier y interrupts h.1 size_is in
-        subst (λ (o : Option Part). Done y.frame.size (fragments older ++ rest_of o p store ∷ [])) (sym interrupts)
+        subst (λ (o : Option Part). Done y.frame.size (fragments older ++ rest_packet o p store ∷ [])) (sym interrupts)
         (subst (λ (o : List ℕ). Done y.frame.size (fragments older ++ fragment_of y.frame o y.so_far p ∷ [])) (sym (held_octets y.frame octets p.told.end h.0))
         (both (fragments older ++ fragment_of y.frame octets y.so_far p ∷ []) y.frame.size
         (ended y.frame y.so_far (suc y.continuations) (firsts older) (y.frame.size - y.place) (fragments older) p (rest_sequence y so_far kind_is)

@@ -14,7 +14,7 @@ use Rattle.pre_send.specs.declared.senders.Sender.{Sender}
 use Rattle.pre_send.specs.Calls.{Chosen, express, whole, first, rest, verify, respond, lldp, Call, ended, End, Told, tells}
 use Rattle.pre_send.specs.Plans.{piece_kind, piece_size, size_planned}
 use Rattle.pre_send.specs.Fragments.{next_fragment}
-use Rattle.pre_send.specs.Sendings.{Sending, Part, left_by, part_at, octets_at, mdata_at, after_fragment, part_after, interrupted, is_first, firsts, Follows, IsSending}
+use Rattle.pre_send.specs.Sendings.{Sending, Part, left_by, part_at, slot_octets, mdata_at, after_fragment, part_after, interrupted, is_first, firsts, Follows, IsSending}
 use Rattle.pre_send.specs.Answers.{is_part}
 use Rattle.pre_send.specs.Endings.{done_of, done_by, Ends, GoesOn, PieceEnds, SameBut, EndsPiece, EndsTask}
 use Rattle.pre_send.specs.Senders.{Keeps, Does, IsAt, Stands}
@@ -76,16 +76,16 @@ next_rest from fragment some = elim (eqb_tells from 0) [
 
 -- what goes on is what is left
 goes_left : (x : Piece) (after : Option Piece) (d : ℕ) (store : List (Option (List ℕ))) (f : FrameRef) (before : List ℕ) (n began t : ℕ) (p : Sending)
-    → GoesOn x after d (octets_at store x.frame.slot) → x.frame ≡ f → p.from ≡ x.from → p.size ≡ d + 4
+    → GoesOn x after d (slot_octets store x.frame.slot) → x.frame ≡ f → p.from ≡ x.from → p.size ≡ d + 4
     → p.told.end ≡ Some (record { tick = t; store = store }) → 0 < d → x.frame_count ≡ (began + 3) % 4 → next_fragment x.from x.fragment ≡ n % 4 → register.Stands x.check before
     → Keeps after (Some (part_of f before n p)) began
 unfolding part_of
 goes_left x None d store f before n began t p goes frame from size end some count number stands = absurd goes
 goes_left x (Some y) d store f before n began t p (same_frame, at, same_count, next, uncut, check) frame from size end some count number stands =
     let long : p.size - 4 ≡ d = omega (arith, size) in
-    let sent_part : take d (drop x.from (octets_at store x.frame.slot)) ≡ mdata_at f p.from p.size p.told.end =
-    ap₂ (λ (k : ℕ) (g : FrameRef). take k (drop x.from (octets_at store g.slot))) (sym long) frame
-    ∙ (ap (λ (k : ℕ). part_at (octets_at store f.slot) k p.size) (sym from) ∙ ap (mdata_at f p.from p.size) (sym end)) in (
+    let sent_part : take d (drop x.from (slot_octets store x.frame.slot)) ≡ mdata_at f p.from p.size p.told.end =
+    ap₂ (λ (k : ℕ) (g : FrameRef). take k (drop x.from (slot_octets store g.slot))) (sym long) frame
+    ∙ (ap (λ (k : ℕ). part_at (slot_octets store f.slot) k p.size) (sym from) ∙ ap (mdata_at f p.from p.size) (sym end)) in (
       record {
         frame = same_frame ∙ frame;
         from = at ∙ omega (arith, from, long);

@@ -10,7 +10,7 @@ use Rattle.pre_send.specs.declared.senders.Sender.{Sender}
 use Rattle.pre_send.specs.Calls.{Chosen, verify, respond, lldp, Call}
 use Rattle.pre_send.specs.Sendings.{Sending, Part, interrupted, IsSending}
 use Rattle.pre_send.specs.Frames.{frame_by, HoldsSome, HoldsNewest}
-use Rattle.pre_send.specs.Endings.{HoldsTask, HoldsGoing, Holds}
+use Rattle.pre_send.specs.Endings.{HoldsTask, HoldsGoing, HoldsUnderWay}
 use Rattle.pre_send.specs.Lendings.{HasOctets, HasOther, LendsTask, LendsGoing, Lends}
 use Rattle.pre_send.specs.Senders.{Does, IsAt, Stands}
 
@@ -35,8 +35,8 @@ going_held cost (Some g) kept last [] store at h = absurd at
 going_held cost (Some g) kept last (p ∷ older) store at h = task_held g.task kept p older store at.3 h
 
 pub framed : (s : Sender) (cost add_frag : ℕ) (calls : List Call) (store : List (Option (List ℕ))) → Stands s cost add_frag calls
-    → ((packets : List Sending) → IsSending cost add_frag calls packets → HoldsNewest packets store) → Holds s store
-unfolding Holds
+    → ((packets : List Sending) → IsSending cost add_frag calls packets → HoldsNewest packets store) → HoldsUnderWay s store
+unfolding HoldsUnderWay
 framed s cost add_frag calls store st held = going_held cost s.going s.kept s.last st.packets store st.place (held st.packets st.sending)
 
 -- ---- what is no frame

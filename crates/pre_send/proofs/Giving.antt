@@ -15,9 +15,9 @@ use Rattle.pre_send.specs.declared.going.Going.{Going}
 use Rattle.pre_send.specs.declared.senders.Sender.{Sender}
 use Rattle.pre_send.specs.Calls.{Chosen, express, whole, first, rest, verify, respond, lldp, Call}
 use Rattle.pre_send.specs.Plans.{piece_kind, piece_size, size_planned}
-use Rattle.pre_send.specs.Sendings.{Sending, Part, octets_at, part_at, interrupted, Follows, IsSending}
-use Rattle.pre_send.specs.Packets.{in_one_piece, check_at, fragment_of, rest_of, bare, packet_by, packet_after}
-use Rattle.pre_send.specs.Lendings.{Gives, PieceGives, GivesTask}
+use Rattle.pre_send.specs.Sendings.{Sending, Part, slot_octets, part_at, interrupted, Follows, IsSending}
+use Rattle.pre_send.specs.Packets.{in_one_piece, check_at, fragment_of, rest_packet, bare, packet_by, packet_after}
+use Rattle.pre_send.specs.Lendings.{IsNewestPacket, PieceGives, GivesTask}
 use Rattle.pre_send.specs.Senders.{Does, IsAt, Stands}
 
 -- an mPacket by its three parts
@@ -71,25 +71,25 @@ module _ (kept : Option Piece) (p : Sending) (older : List Sending) (store : Lis
 
   task_gives : (k : Task) → Does k kept p older → GivesTask k store other m → m ≡ packet_after older p store other
   task_gives (task.Frame f) (inl ch, keeps) is =
-      let h = followed (express f) ch in by_choice (express f) ch (is ∙ ap₂ (λ (k : Kind) (n : ℕ). in_one_piece k n (octets_at store f.slot)) (sym h.0) (sym h.2))
+      let h = followed (express f) ch in by_choice (express f) ch (is ∙ ap₂ (λ (k : Kind) (n : ℕ). in_one_piece k n (slot_octets store f.slot)) (sym h.0) (sym h.2))
   task_gives (task.Frame f) (inr ch, keeps) is =
-      let h = followed (whole f) ch in by_choice (whole f) ch (is ∙ ap₂ (λ (k : Kind) (n : ℕ). in_one_piece k n (octets_at store f.slot)) (sym h.0) (sym h.2))
+      let h = followed (whole f) ch in by_choice (whole f) ch (is ∙ ap₂ (λ (k : Kind) (n : ℕ). in_one_piece k n (slot_octets store f.slot)) (sym h.0) (sym h.2))
   task_gives task.Verify (ch, keeps) is = let h = followed verify ch in by_choice verify ch (is ∙ ap bare (sym h.0))
   task_gives task.Respond (ch, keeps) is = let h = followed respond ch in by_choice respond ch (is ∙ ap bare (sym h.0))
   task_gives task.Lldp (ch, keeps) is = let h = followed lldp ch in by_choice lldp ch (is ∙ ap₂ (λ (k : Kind) (n : ℕ). in_one_piece k n other) (sym h.0) (sym h.2))
   task_gives (task.Fragment x) (none, from, kind_is, size, inl (ch, count, stands)) (m_kind, gives) =
-      by_choice (first x.frame) ch (by_cut x p (octets_at store x.frame.slot) [] m from kind_is size stands m_kind x.cut refl gives)
+      by_choice (first x.frame) ch (by_cut x p (slot_octets store x.frame.slot) [] m from kind_is size stands m_kind x.cut refl gives)
   task_gives (task.Fragment x) (none, from, kind_is, size, inr (ch, (part, interrupts, left))) (m_kind, gives) =
       by_choice rest ch (
-      by_cut x p (octets_at store x.frame.slot) part.so_far m from kind_is size left.check m_kind x.cut refl gives
-      ∙ (ap (λ (f : FrameRef). fragment_of f (octets_at store f.slot) part.so_far p) left.frame
-      ∙ ap (λ (o : Option Part). rest_of o p store) (sym interrupts))
+      by_cut x p (slot_octets store x.frame.slot) part.so_far m from kind_is size left.check m_kind x.cut refl gives
+      ∙ (ap (λ (f : FrameRef). fragment_of f (slot_octets store f.slot) part.so_far p) left.frame
+      ∙ ap (λ (o : Option Part). rest_packet o p store) (sym interrupts))
       )
 
 pub gives : (s : Sender) (cost add_frag : ℕ) (calls : List Call) (g : Going) (store : List (Option (List ℕ))) (other : List ℕ) (m : PlainPacket) → Stands s cost add_frag calls → s.going ≡ Some g
-    → GivesTask g.task store other m → Gives cost add_frag calls store other m
+    → GivesTask g.task store other m → IsNewestPacket cost add_frag calls store other m
 gives s cost add_frag calls g store other m st is given = inner st.packets st.sending (subst (λ (o : Option Going). IsAt cost o s.kept s.last st.packets) is st.place)
   where
-    inner : (packets : List Sending) → IsSending cost add_frag calls packets → IsAt cost (Some g) s.kept s.last packets → Gives cost add_frag calls store other m
+    inner : (packets : List Sending) → IsSending cost add_frag calls packets → IsAt cost (Some g) s.kept s.last packets → IsNewestPacket cost add_frag calls store other m
     inner [] sending at = absurd at
     inner (p ∷ older) sending at = (p, older, sending, at.0, task_gives s.kept p older store other m cost add_frag sending.sent.0 g.task at.3 given)

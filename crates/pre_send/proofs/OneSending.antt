@@ -5,11 +5,11 @@ use Rattle.std.proofs.lemmas.List.{take-append-drop, length-drop}
 use Rattle.pre_mpacket.specs.declared.packets.Kind.{Kind}
 use Rattle.pre_mpacket.specs.declared.packets.Kind.TheVariants as kind
 use Rattle.pre_mpacket.specs.Spelling.{PlainPacket}
-use Rattle.pre_mpacket.specs.CutSizes.{cut_one}
+use Rattle.pre_mpacket.proofs.CutSizes.{cut_one}
 use Rattle.pre_rings.specs.declared.slots.FrameRef.{FrameRef}
 use Rattle.pre_rings.specs.Stores.{HoldsAt}
 use Rattle.pre_send.specs.Calls.{Chosen, express, whole, first, rest, verify, respond, lldp, Call, ended, Told, tells, told_by}
-use Rattle.pre_send.specs.Sendings.{Sending, Part, held, octets_at, interrupted, firsts, Waits, IsCut, Follows, AreSent, IsSending}
+use Rattle.pre_send.specs.Sendings.{Sending, Part, held, slot_octets, interrupted, firsts, Waits, IsCut, Follows, AreSent, IsSending}
 use Rattle.pre_send.specs.Answers.{is_part}
 use Rattle.pre_send.specs.Endings.{done_by}
 use Rattle.pre_send.specs.Packets.{packet_by, packet_after}
@@ -93,12 +93,12 @@ IsWholeFrame m octets = (m.kind ≡ kind.Express) × (m.mdata ++ m.check ≡ oct
 
 module _ (cost add_frag : ℕ) (p : Sending) (older : List Sending) (f : FrameRef) (store : List (Option (List ℕ))) (octets other : List ℕ)
     (holds : HoldsAt store f.slot octets) (size : length octets ≡ f.size) (some : 64 ≤ f.size) where
-  whole_frame : (m : PlainPacket) → m.kind ≡ kind.Express → p.size ≡ f.size → m.mdata ≡ take (p.size - 4) (octets_at store f.slot) → m.check ≡ drop (p.size - 4) (octets_at store f.slot)
+  whole_frame : (m : PlainPacket) → m.kind ≡ kind.Express → p.size ≡ f.size → m.mdata ≡ take (p.size - 4) (slot_octets store f.slot) → m.check ≡ drop (p.size - 4) (slot_octets store f.slot)
       → IsWholeFrame m octets
   whole_frame m k size_is mdata check =
-      let same : octets_at store f.slot ≡ octets = ap held holds in (
+      let same : slot_octets store f.slot ≡ octets = ap held holds in (
         k,
-        ap₂ (λ (x y : List ℕ). x ++ y) mdata check ∙ (take-append-drop (p.size - 4) (octets_at store f.slot) ∙ same),
+        ap₂ (λ (x y : List ℕ). x ++ y) mdata check ∙ (take-append-drop (p.size - 4) (slot_octets store f.slot) ∙ same),
         omega (arith, ap length check, ap (λ (l : List ℕ). length (drop (p.size - 4) l)) same, length-drop (p.size - 4) octets, size, size_is, some),
       )
 

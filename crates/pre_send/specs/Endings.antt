@@ -17,7 +17,7 @@ use Rattle.pre_send.specs.Calls.{Chosen, express, whole, first, rest, Call}
 use Rattle.pre_send.specs.Plans.{piece_kind, piece_size}
 use Rattle.pre_send.specs.Tasks.{task_size}
 use Rattle.pre_send.specs.Fragments.{next_fragment}
-use Rattle.pre_send.specs.Sendings.{Sending, Part, octets_at, interrupted, IsSending}
+use Rattle.pre_send.specs.Sendings.{Sending, Part, slot_octets, interrupted, IsSending}
 
 -- ---- what is answered
 
@@ -57,8 +57,8 @@ abbrev pub HoldsGoing : Option Going → List (Option (List ℕ)) → Type 0
 HoldsGoing None store = Unit {0}
 HoldsGoing (Some g) store = HoldsTask g.task store
 
-unfoldable pub Holds : Sender → List (Option (List ℕ)) → Type 0
-Holds s store = HoldsGoing s.going store
+unfoldable pub HoldsUnderWay : Sender → List (Option (List ℕ)) → Type 0
+HoldsUnderWay s store = HoldsGoing s.going store
 
 -- the store holds the frame that is interrupted
 abbrev pub HoldsPiece : Option Piece → List (Option (List ℕ)) → Type 0
@@ -70,7 +70,7 @@ HoldsKept s store = HoldsPiece s.kept store
 
 -- each frame that it has
 pub record HoldsAll (s : Sender) (store : List (Option (List ℕ))) : Type 0 where
-  pub going : Holds s store
+  pub going : HoldsUnderWay s store
   pub kept : HoldsKept s store
 
 abbrev pub HoldsChoice : Choice → List (Option (List ℕ)) → Type 0
@@ -91,7 +91,7 @@ GoesOn x (Some y) d octets =
 abbrev pub PieceEnds : Option ℕ → Piece → Option Piece → Option Piece → List (Option (List ℕ)) → Sent → Type 0
 PieceEnds None x before after store sent = (after ≡ before) × (sent.done ≡ Some x.frame)
 PieceEnds (Some d) x before after store sent =
-    (sent.done ≡ None) × (0 < d) × (x.from + d + 64 ≤ x.frame.size) × GoesOn x after d (octets_at store x.frame.slot)
+    (sent.done ≡ None) × (0 < d) × (x.from + d + 64 ≤ x.frame.size) × GoesOn x after d (slot_octets store x.frame.slot)
 
 abbrev pub SameBut : Sender → Sender → Type 0
 SameBut old new = (new.cost ≡ old.cost) × (new.add_frag ≡ old.add_frag) × (new.going ≡ old.going) × (new.last ≡ old.last) × (new.frame_count ≡ old.frame_count)

@@ -13,14 +13,14 @@ use Rattle.pre_send.specs.declared.going.Going.{Going}
 use Rattle.pre_send.specs.declared.senders.Sender.{Sender}
 use Rattle.pre_send.specs.Calls.{Chosen, verify, respond, lldp, Call}
 use Rattle.pre_send.specs.Plans.{piece_kind}
-use Rattle.pre_send.specs.Sendings.{Sending, octets_at, IsSending}
+use Rattle.pre_send.specs.Sendings.{Sending, slot_octets, IsSending}
 use Rattle.pre_send.specs.Packets.{in_one_piece, bare, packet_after}
 
 -- ---- what is given
 
 -- the newest mPacket of these calls, which is under way, with the frames of this time
-abbrev pub Gives : ℕ → ℕ → List Call → List (Option (List ℕ)) → List ℕ → PlainPacket → Type 0
-Gives cost add_frag calls store other m =
+abbrev pub IsNewestPacket : ℕ → ℕ → List Call → List (Option (List ℕ)) → List ℕ → PlainPacket → Type 0
+IsNewestPacket cost add_frag calls store other m =
     (p : Sending) × (older : List Sending) × IsSending cost add_frag calls (p ∷ older) × (p.told.end ≡ None) × (m ≡ packet_after older p store other)
 
 -- ---- what it is lent out of
@@ -66,10 +66,10 @@ PieceGives (Some d) x octets m =
     × ((so_far : List ℕ) → register.Stands x.check so_far → m.check ≡ Mcrc (so_far ++ take d (drop x.from octets)))
 
 abbrev pub GivesPiece : Piece → List (Option (List ℕ)) → PlainPacket → Type 0
-GivesPiece x store m = (m.kind ≡ piece_kind x) × PieceGives x.cut x (octets_at store x.frame.slot) m
+GivesPiece x store m = (m.kind ≡ piece_kind x) × PieceGives x.cut x (slot_octets store x.frame.slot) m
 
 abbrev pub GivesTask : Task → List (Option (List ℕ)) → List ℕ → PlainPacket → Type 0
-GivesTask (task.Frame f) store other m = m ≡ in_one_piece kind.Express f.size (octets_at store f.slot)
+GivesTask (task.Frame f) store other m = m ≡ in_one_piece kind.Express f.size (slot_octets store f.slot)
 GivesTask (task.Fragment x) store other m = GivesPiece x store m
 GivesTask task.Verify store other m = m ≡ bare kind.Verify
 GivesTask task.Respond store other m = m ≡ bare kind.Respond

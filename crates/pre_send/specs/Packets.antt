@@ -5,7 +5,7 @@ use Rattle.pre_mpacket.specs.declared.packets.Kind.{Kind}
 use Rattle.pre_mpacket.specs.Spelling.{PlainPacket}
 use Rattle.pre_rings.specs.declared.slots.FrameRef.{FrameRef}
 use Rattle.pre_send.specs.Calls.{Chosen, express, whole, first, rest, verify, respond, lldp, End}
-use Rattle.pre_send.specs.Sendings.{Sending, Part, octets_at, part_at, interrupted}
+use Rattle.pre_send.specs.Sendings.{Sending, Part, slot_octets, part_at, interrupted}
 
 -- a frame of so many octets in one piece, whose check is its last four octets
 abbrev pub in_one_piece : Kind → ℕ → List ℕ → PlainPacket
@@ -26,9 +26,9 @@ fragment_of f octets before p = record {
 }
 
 -- the fragment that goes on with the interrupted frame
-abbrev pub rest_of : Option Part → Sending → List (Option (List ℕ)) → PlainPacket
-rest_of None p store = record { kind = p.kind; mdata = []; check = [] }
-rest_of (Some x) p store = fragment_of x.frame (octets_at store x.frame.slot) x.so_far p
+abbrev pub rest_packet : Option Part → Sending → List (Option (List ℕ)) → PlainPacket
+rest_packet None p store = record { kind = p.kind; mdata = []; check = [] }
+rest_packet (Some x) p store = fragment_of x.frame (slot_octets store x.frame.slot) x.so_far p
 
 -- a verify or a respond
 abbrev pub bare : Kind → PlainPacket
@@ -36,10 +36,10 @@ bare k = record { kind = k; mdata = replicate 60 0; check = Mcrc (replicate 60 0
 
 -- an mPacket by its choice, with the frames of that time; `other` is an LLDP frame
 abbrev pub packet_by : Chosen → Option Part → Sending → List (Option (List ℕ)) → List ℕ → PlainPacket
-packet_by (express f) before p store other = in_one_piece p.kind p.size (octets_at store f.slot)
-packet_by (whole f) before p store other = in_one_piece p.kind p.size (octets_at store f.slot)
-packet_by (first f) before p store other = fragment_of f (octets_at store f.slot) [] p
-packet_by rest before p store other = rest_of before p store
+packet_by (express f) before p store other = in_one_piece p.kind p.size (slot_octets store f.slot)
+packet_by (whole f) before p store other = in_one_piece p.kind p.size (slot_octets store f.slot)
+packet_by (first f) before p store other = fragment_of f (slot_octets store f.slot) [] p
+packet_by rest before p store other = rest_packet before p store
 packet_by verify before p store other = bare p.kind
 packet_by respond before p store other = bare p.kind
 packet_by lldp before p store other = in_one_piece p.kind p.size other

@@ -28,8 +28,8 @@ abbrev pub held : Option (Option (List ℕ)) → List ℕ
 held (Some (Some octets)) = octets
 held _ = []
 
-abbrev pub octets_at : List (Option (List ℕ)) → ℕ → List ℕ
-octets_at store slot = held (slice_get store slot)
+abbrev pub slot_octets : List (Option (List ℕ)) → ℕ → List ℕ
+slot_octets store slot = held (slice_get store slot)
 
 -- a part of a frame of so many octets
 abbrev pub part_at : List ℕ → ℕ → ℕ → List ℕ
@@ -38,7 +38,7 @@ part_at octets from size = take (size - 4) (drop from octets)
 -- the mData that a fragment of the frame had, by the store at its end
 abbrev pub mdata_at : FrameRef → ℕ → ℕ → Option End → List ℕ
 mdata_at f from size None = []
-mdata_at f from size (Some end) = part_at (octets_at end.store f.slot) from size
+mdata_at f from size (Some end) = part_at (slot_octets end.store f.slot) from size
 
 -- a frame that goes on: how many octets of it were sent, which, and in how many continuations
 pub record Part : Type 0 where

@@ -9,7 +9,7 @@ ghost use Rattle.pre_send.specs.Calls.{Call, ended, express, whole};
 ghost use Rattle.pre_send.specs.Sendings.{Sending, Part, interrupted, IsSending};
 ghost use Rattle.pre_send.specs.Answers.{is_part};
 ghost use Rattle.pre_send.specs.Frames.{HoldsNewest};
-ghost use Rattle.pre_send.specs.Endings.{Holds, done_by};
+ghost use Rattle.pre_send.specs.Endings.{HoldsUnderWay, done_by};
 ghost use Rattle.pre_send.specs.Packets.{packet_after, fragments};
 ghost use Rattle.pre_send.specs.Lendings.{Lends, HasOther};
 ghost use Rattle.pre_send.specs.Carrying.{EachHeld};
@@ -18,7 +18,7 @@ ghost use Rattle.pre_send.specs.Senders.{Stands};
 /// A store that holds the frame of the newest mPacket holds what a sender has under way.
 pub fn frames_law()
     ensures { (s : Sender) (cost add_frag : ℕ) (calls : List Call) (store : List (Option (List ℕ))) → Stands s cost add_frag calls
-        → ((packets : List Sending) → IsSending cost add_frag calls packets → HoldsNewest packets store) → Holds s store }
+        → ((packets : List Sending) → IsSending cost add_frag calls packets → HoldsNewest packets store) → HoldsUnderWay s store }
 {}
 
 /// An LLDP frame of 64 octets, where the newest mPacket carries one, and 60 octets 0, where it is a verify or respond, are

@@ -4,7 +4,7 @@ ghost use Rattle.pre_base.specs.declared.limits.TheConstants.{GREATEST_FRAME};
 ghost use Rattle.pre_mpacket.specs.Spelling.{PlainPacket, HasCounts, IsWhole};
 ghost use Rattle.pre_rings.specs.Stores.{HoldsFrame};
 ghost use Rattle.pre_send.specs.Cuts.{IsFirstCut};
-ghost use Rattle.pre_send.specs.Sendings.{octets_at};
+ghost use Rattle.pre_send.specs.Sendings.{slot_octets};
 
 use pre_base::{CHECK, HEAD, LEAST_FRAME};
 use pre_crc::Running;
@@ -113,7 +113,7 @@ impl Piece {
 pub(crate) fn part_of<'a>(store: &'a FrameStore, frame: &FrameRef, from: u16, size: u16) -> &'a [u8]
     requires held { HoldsFrame store.now frame.now }
     requires within { from + size ≤ frame.now.size }
-    ensures { result.now ≡ take size (drop from (octets_at store.now frame.now.slot)) }
+    ensures { result.now ≡ take size (drop from (slot_octets store.now frame.now.slot)) }
 {
     let octets = store.octets(&frame.slot);
     let from = usize::from(from);

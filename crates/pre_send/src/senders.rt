@@ -3,7 +3,7 @@ ghost use Rattle.std.specs.Option.{ForSome};
 ghost use Rattle.pre_base.specs.declared.limits.TheConstants.{LEAST_FRAME, GREATEST_FRAME};
 ghost use Rattle.pre_rings.specs.Stores.{HoldsFrame};
 ghost use Rattle.pre_send.specs.Fragments.{next_fragment};
-ghost use Rattle.pre_send.specs.Sendings.{octets_at};
+ghost use Rattle.pre_send.specs.Sendings.{slot_octets};
 ghost use Rattle.pre_send.specs.Alone.{has_both};
 
 use crate::choices::{Choice, Sent};
@@ -40,15 +40,15 @@ impl Sender {
     ghost use Rattle.pre_send.specs.Calls.{Call, begun, waited, ended, told_by};
     ghost use Rattle.pre_send.specs.Sendings.{IsFree};
     ghost use Rattle.pre_send.specs.Answers.{IsFreeAt, EndsAt, IsInterrupted, IsUnderWayAs};
-    ghost use Rattle.pre_send.specs.Endings.{Ends, plans_end, Holds, HoldsAll, HoldsChoice, HoldsTask, EndsPiece, EndsTask};
+    ghost use Rattle.pre_send.specs.Endings.{Ends, plans_end, HoldsUnderWay, HoldsAll, HoldsChoice, HoldsTask, EndsPiece, EndsTask};
     ghost use Rattle.pre_mpacket.specs.Spelling.{PlainPacket, HasCounts, IsWhole};
     ghost use Rattle.pre_send.specs.Tasks.{task_size};
-    ghost use Rattle.pre_send.specs.Lendings.{Lends, LendsChoice, Gives};
+    ghost use Rattle.pre_send.specs.Lendings.{Lends, LendsChoice, IsNewestPacket};
     ghost use Rattle.pre_send.specs.Owned.{frames_of, frames_chosen, frames_done};
     ghost use Rattle.pre_send.specs.Senders.{Stands, chosen, is_free, IsFreeFrom, is_interrupted, kind_under_way, MayBegin, Firsts, Rests, Chooses};
 
     /// A sender that has sent nothing, by the ticks for an octet and the link's additional fragment size.
-    #[tactic(auto, unfolding(crate::specs::Endings::Holds, crate::specs::Endings::HoldsKept, crate::specs::Owned::frames_of))]
+    #[tactic(auto, unfolding(crate::specs::Endings::HoldsUnderWay, crate::specs::Endings::HoldsKept, crate::specs::Owned::frames_of))]
     pub fn idle(cost: u64, add_frag: u8) -> Sender
         requires cost { 1 ≤ cost }
         requires most { cost ≤ 1000 }
@@ -129,7 +129,7 @@ impl Sender {
     }
 
     /// Tells that an mPacket begins.
-    #[tactic(auto, unfolding(crate::specs::Owned::frames_of, crate::specs::Endings::plans_end, crate::specs::Endings::Holds, crate::specs::Endings::HoldsKept, crate::specs::Lendings::Lends))]
+    #[tactic(auto, unfolding(crate::specs::Owned::frames_of, crate::specs::Endings::plans_end, crate::specs::Endings::HoldsUnderWay, crate::specs::Endings::HoldsKept, crate::specs::Lendings::Lends))]
     pub fn begin(&mut self, now: Tick, choice: Choice)
         requires free { is_free self.old now.0 ≡ true }
         requires may { MayBegin self.old choice }
@@ -150,7 +150,7 @@ impl Sender {
 
     /// Tells that an express frame waits from now on until the mPacket under way has ended, which fixes where a fragment is
     /// cut. With none under way it changes nothing. Ticks never fall from call to call.
-    #[tactic(auto, unfolding(crate::specs::Owned::frames_of, crate::specs::Endings::plans_end, crate::specs::Endings::Holds, crate::specs::Endings::HoldsKept, crate::specs::Lendings::Lends))]
+    #[tactic(auto, unfolding(crate::specs::Owned::frames_of, crate::specs::Endings::plans_end, crate::specs::Endings::HoldsUnderWay, crate::specs::Endings::HoldsKept, crate::specs::Lendings::Lends))]
     pub fn express_waits(&mut self, now: Tick)
         requires { now.0 ≤ 10 ^ 18 }
         ensures stands { (cost add_frag : ℕ) (calls : List Call) → Stands self.old cost add_frag calls → Stands self.new cost add_frag (calls ++ waited now.0 ∷ []) }
@@ -169,13 +169,13 @@ impl Sender {
     /// The mPacket under way, as it ends by the present plan: its kind, its mData and its check as sent (IEEE 802.3, 99.3).
     /// The mData is lent out of the store, which holds its frame, or out of `other`, which is an LLDP frame of 64 octets, or
     /// the 60 octets 0 of a verify or respond. Of all octets of the frame so far only those of this mPacket are looked at.
-    #[tactic(auto, unfolding(crate::specs::Endings::plans_end, crate::specs::Endings::Holds, crate::specs::Lendings::Lends))]
+    #[tactic(auto, unfolding(crate::specs::Endings::plans_end, crate::specs::Endings::HoldsUnderWay, crate::specs::Lendings::Lends))]
     pub fn mpacket<'a>(&self, store: &'a FrameStore, other: &'a [u8]) -> (Kind, &'a [u8], [u8; 4])
         requires going { IsSome (plans_end self.now) }
-        requires holds { Holds self.now store.now }
+        requires holds { HoldsUnderWay self.now store.now }
         requires other { Lends self.now other.now }
         ensures given { (cost add_frag : ℕ) (calls : List Call) → Stands self.now cost add_frag calls
-            → Gives cost add_frag calls store.now other.now (record { kind = result.0; mdata = result.1.now; check = result.2 }) }
+            → IsNewestPacket cost add_frag calls store.now other.now (record { kind = result.0; mdata = result.1.now; check = result.2 }) }
         ensures whole { IsWhole (record { kind = result.0; mdata = result.1.now; check = result.2 }) }
     {
         match &self.going {
@@ -185,10 +185,10 @@ impl Sender {
     }
 
     /// Tells that the mPacket under way has ended, and what it was. The store holds its frame.
-    #[tactic(auto, unfolding(crate::specs::Owned::frames_of, crate::specs::Endings::plans_end, crate::specs::Endings::Holds, crate::specs::Endings::HoldsKept))]
+    #[tactic(auto, unfolding(crate::specs::Owned::frames_of, crate::specs::Endings::plans_end, crate::specs::Endings::HoldsUnderWay, crate::specs::Endings::HoldsKept))]
     pub fn finish(&mut self, now: Tick, store: &FrameStore) -> Sent
         requires due { plans_end self.old ≡ Some now.0 }
-        requires holds { Holds self.old store.now }
+        requires holds { HoldsUnderWay self.old store.now }
         requires within { now.0 ≤ 2 * 10 ^ 18 }
         ensures stands { (cost add_frag : ℕ) (calls : List Call) → Stands self.old cost add_frag calls → Stands self.new cost add_frag (calls ++ ended now.0 store.now ∷ []) }
         ensures holds { HoldsAll self.old store.now → HoldsAll self.new store.now }

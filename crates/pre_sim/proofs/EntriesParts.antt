@@ -34,7 +34,7 @@ use Rattle.pre_sim.specs.Sends.{BeforeEntries, AreNew, ComesPart, ComesFront, Re
 use Rattle.pre_sim.proofs.Lists.{there, count_by-append}
 use Rattle.pre_sim.proofs.NumberTests.{adds}
 use Rattle.pre_sim.proofs.StageTests.{is_settled}
-use Rattle.pre_sim.specs.Told.{Takes, Fails}
+use Rattle.pre_sim.proofs.Told.{Takes, Fails}
 use Rattle.pre_sim.proofs.TellParts.{then_part}
 use Rattle.pre_sim.proofs.EntriesEarly.{early_before}
 use Rattle.pre_sim.proofs.EntriesInside.{AreRising, arrivals_rise, left_of}

@@ -65,8 +65,8 @@ pub record TakeLaws : Type 0 where
       → (before : List Entry) × (behind : List Entry) × (inside net streams calls ≡ before ++ entry ∷ behind) × IsTurn t before entry behind
 
 -- A take hands this out.
-abbrev pub Gives : Relay → ℕ → Option (ArcId × FrameRef) → Type 0
-Gives relay t given = (net : Network) (streams : Streams) (calls : List Call) → Stands relay net streams calls → given ≡ option_map handed (leaving t (inside net streams calls))
+abbrev pub RelayGives : Relay → ℕ → Option (ArcId × FrameRef) → Type 0
+RelayGives relay t given = (net : Network) (streams : Streams) (calls : List Call) → Stands relay net streams calls → given ≡ option_map handed (leaving t (inside net streams calls))
 
 -- So it stands behind the take.
 abbrev pub StandsOn : Relay → Relay → ℕ → Type 0
@@ -97,14 +97,14 @@ module _ (w : Scenario) (t : ℕ) (relay : Relay) (old : List Lane) where
     replicated calls = append_assoc calls (replicate k (taken t)) (taken t ∷ []) ∙ ap (λ xs. calls ++ xs) (replicate_more k (taken t))
 
     -- the next take
-    given_at : (given : Option (ArcId × FrameRef)) → Gives now t given → (calls : List Call) → Stands relay w.net w.streams calls → given ≡ option_map handed (slice_get (all calls) k)
+    given_at : (given : Option (ArcId × FrameRef)) → RelayGives now t given → (calls : List Call) → Stands relay w.net w.streams calls → given ≡ option_map handed (slice_get (all calls) k)
     given_at given gives calls stands =
         gives w.net w.streams (calls ++ replicate k (taken t)) (so_far.stands calls stands) ∙ ap (option_map handed) (laws.each relay w.net w.streams calls t k stands)
 
     stands_on : (now' : Relay) → StandsOn now now' t → (calls : List Call) → Stands relay w.net w.streams calls → Stands now' w.net w.streams (calls ++ replicate (k + 1) (taken t))
     stands_on now' on calls stands = subst (Stands now' w.net w.streams) (replicated calls) (on w.net w.streams (calls ++ replicate k (taken t)) (so_far.stands calls stands))
 
-    module _ (next : ArcId) (f : FrameRef) (gives : Gives now t (Some (next, f))) where
+    module _ (next : ArcId) (f : FrameRef) (gives : RelayGives now t (Some (next, f))) where
       its_coming : (calls : List Call) → Stands relay w.net w.streams calls → map coming_of (take k (all calls)) ++ comes_to next.0 f ∷ [] ≡ map coming_of (take (k + 1) (all calls))
       its_coming calls stands =
           let e = handed_of (slice_get (all calls) k) next f (given_at (Some (next, f)) gives calls stands) in
@@ -150,7 +150,7 @@ module _ (w : Scenario) (t : ℕ) (relay : Relay) (old : List Lane) where
         whole_part k now calls0 stands0 so_far.stands (λ calls stands. ap (λ n. take n (all calls)) is) (λ calls stands. omega (arith, is))
 
     -- the next take gives none
-    pub no_more_taken : (calls : List Call) → Stands relay w.net w.streams calls → k < length w.net.arcs → (now' : Relay) → StandsOn now now' t → Gives now t None
+    pub no_more_taken : (calls : List Call) → Stands relay w.net w.streams calls → k < length w.net.arcs → (now' : Relay) → StandsOn now now' t → RelayGives now t None
         → RelaysPart w t relay old now' mid lost es
     no_more_taken calls0 stands0 lt now' on gives =
         let none : (calls : List Call) → Stands relay w.net w.streams calls → slice_get (all calls) k ≡ None =
@@ -169,7 +169,7 @@ module _ (w : Scenario) (routed : IsRouted w) (laws : TakeLaws) (t : ℕ) (store
     pub over : GoesOver w f.frame next.0
     pub known : next.0 < length w.net.arcs
 
-  pub keeps_taken : (next : ArcId) (f : FrameRef) → Gives relay t (Some (next, f)) → IsStanding w store relay lanes → Left next f
+  pub keeps_taken : (next : ArcId) (f : FrameRef) → RelayGives relay t (Some (next, f)) → IsStanding w store relay lanes → Left next f
   keeps_taken next f gives (calls, stands, keeps) =
       let e = handed_of (leaving t (inside w.net w.streams calls)) next f (gives w.net w.streams calls stands) in
       let turn = laws.turn relay w.net w.streams calls t e.0 stands e.1 in
@@ -188,7 +188,7 @@ module _ (w : Scenario) (routed : IsRouted w) (laws : TakeLaws) (t : ℕ) (store
       }
 
   -- none came out
-  pub keeps_none : Gives relay t None → IsStanding w store relay lanes → IsStanding w store now lanes
+  pub keeps_none : RelayGives relay t None → IsStanding w store relay lanes → IsStanding w store now lanes
   keeps_none gives (calls, stands, keeps) =
       let none = none_handed (leaving t (inside w.net w.streams calls)) (gives w.net w.streams calls stands) in
       (calls ++ taken t ∷ [], on w.net w.streams calls stands, subst (λ (xs : List Entry). Keeps w store lanes xs []) (sym (take_none w.net w.streams calls t none)) keeps)

@@ -55,3 +55,4 @@ pub mod ClosingParts
 pub mod RestingTicks
 pub mod RestingLanes
 pub mod Owning
+pub mod Told

@@ -23,7 +23,7 @@ use Rattle.pre_sim.specs.Stands.{Reaches}
 use Rattle.pre_sim.specs.Parts.{TellsPart, TickPart, AdvancePart, AdvanceFront, CarriesAlias, IsFrontOfLegal}
 use Rattle.pre_sim.specs.Views.{SimView, HasTold}
 use Rattle.pre_sim.specs.Steps.{StepTells}
-use Rattle.pre_sim.specs.Told.{Takes, Fails}
+use Rattle.pre_sim.proofs.Told.{Takes, Fails}
 
 -- what reaches the next tick has told its events
 pub has_told : (s : SimView) (h : History) → Reaches s.run s.next 0 h s.progress → HasTold s h

@@ -5,7 +5,7 @@ use Rattle.pre_history.specs.History.{PlainEvent, History}
 use Rattle.pre_sim.specs.declared.halts.Halt.{Halt}
 use Rattle.pre_sim.specs.Telling.{TellsAll}
 use Rattle.pre_sim.specs.Parts.{TellsOne, TellsPart, NoArrival}
-use Rattle.pre_sim.specs.Told.{Takes, Fails}
+use Rattle.pre_sim.proofs.Told.{Takes, Fails}
 use Rattle.pre_sim.proofs.TellParts.{part_of_one, then_front}
 
 -- the watcher failed at an event

@@ -10,7 +10,7 @@ use Rattle.pre_sim.specs.declared.halts.Halt.{Halt}
 use Rattle.pre_sim.specs.declared.halts.Halt.TheVariants.{Stopped, Alias}
 use Rattle.pre_sim.specs.Telling.{TellsAll}
 use Rattle.pre_history.proofs.WrittenEvents.{AreWritten-append}
-use Rattle.pre_sim.specs.Told.{Takes, Fails, tells_nothing, tells_then}
+use Rattle.pre_sim.proofs.Told.{Takes, Fails, tells_nothing, tells_then}
 use Rattle.pre_sim.specs.Parts.{TellsOne, TellsPart, NoArrival, count_of}
 
 -- nothing

@@ -7,7 +7,6 @@ pub mod Lanes
 pub mod Views
 pub mod Steps
 pub mod Own
-pub mod Told
 pub mod Sends
 pub mod Parts
 pub mod Room

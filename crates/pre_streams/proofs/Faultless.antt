@@ -15,7 +15,7 @@ use Rattle.pre_streams.specs.declared.raw.RawStreams.{RawStreams}
 use Rattle.pre_streams.specs.declared.raw.RawFlow.{RawFlow}
 use Rattle.pre_streams.specs.FileRules.{name_breaks, name_fault, is_named, entry_breaks, other_route, hop_fault, route_fault, class_breaks, class_fault, row_in_range, curve_in_range, is_carried, range_breaks, range_fault, burst_breaks, burst_fault, counts_hold, raw_fault}
 use Rattle.pre_streams.specs.Holds.{Holds}
-use Rattle.pre_table.specs.NoFaults.{first_none, map_none, unless_none, none_passes, none_breaks, none_before}
+use Rattle.pre_table.proofs.NoFaults.{first_none, map_none, unless_none, none_passes, none_breaks, none_before}
 
 pub default_row : RawFlow
 default_row = record { name = []; vid = Natural 0; prio = Natural 0; route = []; max = Natural 0 }

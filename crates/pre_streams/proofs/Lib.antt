@@ -8,3 +8,4 @@ mod MadeRoutes
 mod MadeRows
 mod Rising
 mod NextArcs
+mod Joining

@@ -19,7 +19,7 @@ use Rattle.pre_topo.specs.Pair.{station, pair_arc}
 use Rattle.pre_streams.specs.NamedRoutes.{has_name, node_place, leads, arc_place, node_id, arc_id, arcs_along, route_made}
 use Rattle.pre_streams.specs.FileRules.{is_station, is_station_at, is_end, is_linked, is_reached, has_kind_for, entry_breaks, length_in_range}
 use Rattle.pre_streams.specs.Rows.{IsOfKind, Leads, IsRoute}
-use Rattle.pre_table.specs.NoFaults.{none_breaks, none_before}
+use Rattle.pre_table.proofs.NoFaults.{none_breaks, none_before}
 
 pub same_octets : (xs ys : List ℕ) → xs ≡ ys → bytes_eq xs ys ≡ true
 same_octets xs ys same = by_cases (bytes_eq xs ys) refl

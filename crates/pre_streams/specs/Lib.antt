@@ -3,6 +3,7 @@ pub mod Rows
 pub mod Fits
 pub mod Hops
 pub mod Named
+pub mod Joined
 pub mod Pair
 pub mod PairStreams
 pub mod Raw

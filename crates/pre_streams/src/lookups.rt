@@ -1,6 +1,7 @@
-ghost use Rattle.std.specs.Prelude.{◌≡◌, ℕ, IfSome, IfNone};
+ghost use Rattle.std.specs.Prelude.{◌≡◌, ℕ, IfSome, IfNone, position, is_none};
 ghost use Rattle.std.specs.Option.{option_map};
 ghost use Rattle.pre_streams.specs.Hops.{IsNextArc, TakesArc, TakesArcBy, place_of_row};
+ghost use Rattle.pre_streams.specs.Joined.{first_flow};
 
 use crate::Row;
 use pre_base::{ArcId, NodeId};
@@ -49,4 +50,17 @@ pub(crate) fn place_of(rows: &[Row], word: &[u8]) -> Option<usize>
 {
     rows.iter()
         .position(|row| row.name.as_str().as_bytes() == word)
+}
+
+fn flow_place(rows: &[Row]) -> Option<usize>
+    ensures { result ≡ position (λ r. is_none r.curve) rows.now }
+{
+    rows.iter().position(|row| row.curve.is_none())
+}
+
+/// The place of the first flow, and the number of the rows where there is none.
+pub(crate) fn first_flow(rows: &[Row]) -> usize
+    ensures { result ≡ first_flow rows.now }
+{
+    flow_place(rows).unwrap_or(rows.len())
 }

@@ -9,16 +9,10 @@ use crate::raw::RawFlow;
 use pre_base::Name;
 use pre_topo::{Arc, Network, Node, NodeKind};
 
-pub(crate) fn is_same(a: &Name, b: &Name) -> bool
-    ensures { result ≡ bytes_eq a.now b.now }
-{
-    a.as_str() == b.as_str()
-}
-
 fn place_in(nodes: &[Node], name: &Name) -> Option<usize>
     ensures { result ≡ position (has_name name.now) nodes.now }
 {
-    nodes.iter().position(|node| is_same(&node.name, name))
+    nodes.iter().position(|node| node.name.is_same(name))
 }
 
 /// The place of the node of this name.
@@ -115,7 +109,7 @@ fn has_kind_for(net: &Network, route: &[Name], hop: usize, name: &Name) -> bool
 fn is_visited(entries: &[Name], name: &Name) -> bool
     ensures { result ≡ list_any (bytes_eq name.now) entries.now }
 {
-    entries.iter().any(|entry| is_same(name, entry))
+    entries.iter().any(|entry| name.is_same(entry))
 }
 
 fn entry_breaks(net: &Network, route: &[Name], hop: usize, name: &Name) -> bool
@@ -141,7 +135,7 @@ fn common_len(a: &[Name], b: &[Name]) -> usize
 {
     let shorter = a.len().min(b.len());
     for hop in 0..shorter {
-        if !is_same(&a[hop], &b[hop]) {
+        if !a[hop].is_same(&b[hop]) {
             return hop;
         }
     }

@@ -7,3 +7,4 @@ pub mod FirstRows
 pub mod Repeated
 mod Inserted
 pub mod PairsAdded
+pub mod NoFaults

@@ -2,5 +2,4 @@ pub mod Documents
 pub mod Values
 pub mod Rows
 pub mod FirstFaults
-pub mod NoFaults
 pub mod TextSets

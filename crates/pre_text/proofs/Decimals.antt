@@ -13,6 +13,7 @@ use Rattle.pre_text.specs.Words.{are_pairs, is_name, is_name_octet, is_plain, nu
 use Rattle.pre_text.specs.Writing.{hex, hex_digit}
 use Rattle.pre_text.proofs.Numbers.{fits, plain_digits}
 use Rattle.pre_text.proofs.Pairs.{within}
+use Rattle.pre_base.proofs.NumberTests.{below}
 
 own : IsNumeralModel (AllDigits 10) (digits_value 10)
 own = numerals_by_value (AllDigits 10) tells_digits
@@ -49,9 +50,6 @@ both : (p q : Bool) → (p && q) ≡ true → (p ≡ true) × (q ≡ true)
 both true true e = (refl, refl)
 both true false e = absurd (false≢true e)
 both false q e = absurd (false≢true e)
-
-below : (m n : ℕ) → nat_lt m n ≡ true → m < n
-below m n e = grind (arith, nat_tests)
 
 digit_below : (c : ℕ) → is_ascii_digit c ≡ true → digit_value c < 10
 digit_below c e = grind (arith, nat_tests)

@@ -53,8 +53,8 @@ fn put_few<S: Sink>(sink: &mut S, octets: &[u8]) -> Result<(), Failed>
 }
 
 /// Writes the digits of the octets to the front of `into`.
-fn spell(octets: &[u8], into: &mut [u8])
-    requires { 2 * length octets.now ≤ length into.old }
+fn spell(octets: &[u8], into: &mut [u8; 2 * FEW])
+    requires { length octets.now ≤ 256 }
     ensures { take (2 * length octets.now) into.new ≡ hex octets.now }
 {
     for (at, octet) in octets.iter().enumerate() {

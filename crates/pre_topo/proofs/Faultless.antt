@@ -10,7 +10,7 @@ use Rattle.pre_topo.specs.declared.raw.RawNode.{RawNode}
 use Rattle.pre_topo.specs.declared.raw.RawLink.{RawLink}
 use Rattle.pre_topo.specs.FileRules.{name_breaks, name_fault, is_named, is_node, joins, ends_break, end_fault, timing_in_range, node_in_range, link_in_range, range_fault, counts_hold, rows_fault}
 use Rattle.pre_topo.specs.Holds.{EndsHold, Holds}
-use Rattle.pre_table.specs.NoFaults.{first_none, map_none, unless_none, none_fails, none_breaks, none_before}
+use Rattle.pre_table.proofs.NoFaults.{first_none, map_none, unless_none, none_fails, none_breaks, none_before}
 
 module _ (nodes : List RawNode) where
   pub names_hold : name_fault nodes ≡ None → All (λ n. IsTrue (is_name n.name)) nodes × AllPairs (λ m n. bytes_eq m.name n.name ≡ false) nodes

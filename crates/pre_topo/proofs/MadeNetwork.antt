@@ -12,7 +12,7 @@ use Rattle.pre_topo.specs.declared.faults.TopoFault.TheVariants.{Slots, Wires}
 use Rattle.pre_topo.specs.Arcs.{slots_of_arc, wires_of_arc}
 use Rattle.pre_topo.specs.Bounds.{IsBounded}
 use Rattle.pre_topo.specs.Rules.{IsNetwork}
-use Rattle.pre_table.specs.NoFaults.{first_none, unless_none}
+use Rattle.pre_table.proofs.NoFaults.{first_none, unless_none}
 use Rattle.pre_topo.proofs.Faultless.{faultless}
 use Rattle.pre_topo.proofs.MadeNodes.{within, timing_is, nodes_are, names_differ}
 use Rattle.pre_topo.proofs.MadeArcs.{arcs_are, arcs_count, arcs_paired, arcs_apart}

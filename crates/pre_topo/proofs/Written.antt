@@ -1,22 +1,15 @@
 -- What is written piece by piece, and breaks off in one.
-use Rattle.std.proofs.Common.{◌≡◌, ℕ, ◌+◌, ◌-◌, ◌<◌, ◌≤◌, List, [], ◌∷◌, ◌++◌, length, get_or, take, drop, Option, Result, subst, ap, sym, ◌∙◌, refl, arith}
-use Rattle.std.proofs.lemmas.List.{drop_more, length-drop}
+use Rattle.std.proofs.Common.{◌≡◌, ℕ, ◌-◌, ◌≤◌, List, [], ◌∷◌, ◌++◌, length, get_or, take, drop, Option, Result, subst, ap, sym, ◌∙◌, refl, arith}
+use Rattle.std.proofs.lemmas.List.{length-drop}
 use Rattle.std.proofs.Math.Seq.{take-length}
-use Rattle.std.specs.List.{flat_map}
 use Rattle.std.specs.Result.{IsErr}
 use Rattle.pre_base.specs.Told.{WhereTold}
 use Rattle.pre_base.specs.Sinks.{Taken, TakesBut, TakesAll}
-use Rattle.pre_base.specs.Pieces.{TakesWhole, TakesFront, goes_on, breaks}
+use Rattle.pre_base.specs.Sinks.{TakesWhole, TakesFront}
+use Rattle.pre_base.proofs.Pieces.{goes_on, breaks}
 use Rattle.pre_topo.specs.declared.arcs.Arc.{Arc}
 use Rattle.pre_topo.specs.declared.nodes.Node.{Node}
 use Rattle.pre_topo.specs.Text.{link_text, links_text}
-
--- the piece of the element at a place fails, and so does the whole
-pub piece_fails : {X U E : Type 0} (f : X → List ℕ) (xs : List X) (i : ℕ) (d : X) (a b c : Option Taken) (r : Result U E) → i < length xs → IsErr r
-    → WhereTold a b (TakesBut (flat_map f (drop i xs)) (flat_map f xs)) → WhereTold b c (TakesFront (f (get_or xs i d))) → WhereTold a c (TakesAll r (flat_map f xs))
-piece_fails f xs i d a b c r lt is so_far took =
-    breaks a b c (flat_map f xs) (f (get_or xs i d)) (flat_map f (drop (i + 1) xs)) r is
-    (subst (λ (l : List ℕ). WhereTold a b (TakesBut l (flat_map f xs))) (ap (flat_map f) (drop_more xs i d lt)) so_far) took
 
 module _ (nodes : List Node) where
   -- the link of the first two arcs stands first

@@ -56,7 +56,18 @@ link_of ms =
     given (read_or (as_numbers 8) (Some (replicate 8 default_ring)) (codes "rings") ms) (λ rings.
     given (number_or_none (codes "express_from") ms) (λ express_from.
     given (number_or 1522 (codes "largest") ms) (λ largest.
-    Some (record { first = ends.0; second = ends.1; cost = cost; delay = delay; mode = mode; policy = policy; add_frag = add_frag; rings = rings; express_from = express_from; largest = largest })))))))))))
+    Some (record {
+      first = ends.0;
+      second = ends.1;
+      cost = cost;
+      delay = delay;
+      mode = mode;
+      policy = policy;
+      add_frag = add_frag;
+      rings = rings;
+      express_from = express_from;
+      largest = largest;
+    })))))))))))
 
 -- the fields of the whole table; a table without `timing` has an empty one
 pub record TopRow : Type 0 where

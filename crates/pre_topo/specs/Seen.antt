@@ -14,7 +14,18 @@ abbrev pub node_seen : NodeFields → RawNode
 node_seen f = record { name = f.name.now; kind = f.kind.now; latency = f.latency }
 
 abbrev pub link_seen : LinkFields → RawLink
-link_seen f = record { first = f.first.now; second = f.second.now; cost = f.cost; delay = f.delay; mode = f.mode.now; policy = f.policy.now; add_frag = f.add_frag; rings = f.rings; express_from = f.express_from; largest = f.largest }
+link_seen f = record {
+  first = f.first.now;
+  second = f.second.now;
+  cost = f.cost;
+  delay = f.delay;
+  mode = f.mode.now;
+  policy = f.policy.now;
+  add_frag = f.add_frag;
+  rings = f.rings;
+  express_from = f.express_from;
+  largest = f.largest;
+}
 
 abbrev pub top_seen : TopFields → TopRow
 top_seen f = record { express_from = f.express_from; timing = option_map_or (λ t. table_view t.now) f.timing no_members; nodes = map view f.nodes.now; links = map view f.links.now }

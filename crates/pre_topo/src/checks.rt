@@ -11,12 +11,6 @@ use pre_base::{FileRow, Name};
 use pre_table::{PairSet, TextSet};
 use std::alloc::{AllocError, Global};
 
-fn is_same(a: &Name, b: &Name) -> bool
-    ensures { result ≡ bytes_eq a.now b.now }
-{
-    a.as_str() == b.as_str()
-}
-
 /// The names of the nodes.
 fn names_of(alloc: Global, nodes: &[RawNode]) -> Result<TextSet, AllocError>
     ensures { IfOk result (λ names. IsSetOf names (node_names nodes.now)) }
@@ -54,7 +48,7 @@ fn has_wrong_end(nodes: &[RawNode], names: &TextSet, link: &RawLink) -> bool
 {
     !is_given(nodes, names, &link.first)
         || !is_given(nodes, names, &link.second)
-        || is_same(&link.first, &link.second)
+        || link.first.is_same(&link.second)
 }
 
 fn bad_ends(

@@ -29,6 +29,7 @@ use Rattle.pre_history.specs.Written.{IsNumber, IsWhat, HasOctets}
 use Rattle.pre_script.specs.Saying.{setting_of}
 use Rattle.pre_trace.specs.Values.{check_of, count_of, is_lower_case_digit, kind_of, lower_case_pairs, number_below, outcome_of, what_of, yes_of}
 use Rattle.pre_trace.specs.Reading.{FitsWhat}
+use Rattle.pre_base.proofs.NumberTests.{below}
 
 pub both : (p q : Bool) → (p && q) ≡ true → (p ≡ true) × (q ≡ true)
 both true true e = (refl, refl)
@@ -54,9 +55,6 @@ octets_same c d e = grind (arith, nat_tests)
 number_some' : (b : Bool) (v n : ℕ) → (if b then Some v else None) ≡ Some n → (b ≡ true) × (v ≡ n)
 number_some' true v n e = (refl, cc)
 number_some' false v n e = absurd cc
-
-below : (m n : ℕ) → nat_lt m n ≡ true → m < n
-below m n e = grind (arith, nat_tests)
 
 pub number_some : (word : List ℕ) (n : ℕ) → number_of word ≡ Some n → (word ≡ decimal n) × IsNumber n
 number_some word n e =

@@ -118,7 +118,8 @@ impl<S: Sink> Watcher for TraceWatcher<'_, S> {
         // An event of another network is left out.
         ensures unknown { ¬ IsOf self.old.net.now (plain e.now) → IsOk result × (self.new.sink.now ≡ self.old.sink.now) }
         ensures failed { OnErr result (IsOf self.old.net.now (plain e.now)) }
-        ensures goes { GoesOn result (HoldsText self.old.net.now (S.tells self.old.sink.now)) (HoldsText self.new.net.now (S.tells self.new.sink.now)) (HoldsTorn self.new.net.now (S.tells self.new.sink.now)) (plain e.now) }
+        ensures goes { GoesOn result (HoldsText self.old.net.now (S.tells self.old.sink.now))
+            (HoldsText self.new.net.now (S.tells self.new.sink.now)) (HoldsTorn self.new.net.now (S.tells self.new.sink.now)) (plain e.now) }
         ensures cause { HasCause (S.faults self.old.sink.now) (S.faults self.new.sink.now) result }
         ensures same { (self.new.sink.ghost_name ≡ self.old.sink.ghost_name) × (self.new.net.now ≡ self.old.net.now) × StillTells (S.tells self.old.sink.now) (S.tells self.new.sink.now) }
     {

@@ -8,7 +8,7 @@ use Rattle.pre_verify.specs.declared.states.VerifyState.{VerifyState}
 use Rattle.pre_verify.specs.declared.states.VerifyState.TheVariants.{Idle, Wanted, Sending, Waiting, Failed, Verified}
 use Rattle.pre_lldp.specs.LinkState.{Verify, verifies_since, last_verify, run_start, is_answered, is_verified_since, is_over, is_wanted_since}
 use Rattle.pre_verify.specs.Calls.{Call, last_tick, good_of, verifies_of, responds_of, verified_at, wanted_at, is_going, has_failed_since, has_failed, state_at}
-use Rattle.pre_verify.specs.Verifiers.{IsBy, IsBefore, IsFrom, IsRun, IsPresent, Stands, is_under_way, waited, is_wanting}
+use Rattle.pre_verify.specs.Verifiers.{IsBy, IsBelow, IsFrom, IsRun, IsPresent, Stands, is_under_way, waited, is_wanting}
 use Rattle.pre_verify.specs.declared.verifiers.Verifier.{Verifier}
 use Rattle.pre_verify.proofs.Lists.{any_same, last_since}
 use Rattle.pre_verify.proofs.Runs.{run_later}
@@ -17,9 +17,9 @@ pub IsBy-later : (o : Option ℕ) (s t : ℕ) → IsBy o s → s ≤ t → IsBy 
 IsBy-later None s t h le = tt
 IsBy-later (Some r) s t h le = omega (arith, h, le)
 
-pub IsBefore-later : (o : Option ℕ) (s t : ℕ) → IsBy o s → s < t → IsBefore o t
-IsBefore-later None s t h le = tt
-IsBefore-later (Some r) s t h le = omega (arith, h, le)
+pub IsBelow-later : (o : Option ℕ) (s t : ℕ) → IsBy o s → s < t → IsBelow o t
+IsBelow-later None s t h le = tt
+IsBelow-later (Some r) s t h le = omega (arith, h, le)
 
 pub run_at : (v : Verifier) (wait : ℕ) (calls : List Call) (t : ℕ) → Stands v wait calls → v.latest.0 ≤ t → run_start (good_of calls) t ≡ v.since
 run_at v wait calls t s le =

@@ -8,7 +8,7 @@ use Rattle.std.proofs.lemmas.List.Elements.{filter-append}
 use Rattle.std.proofs.lemmas.List.Folds.{list_any-append}
 use Rattle.pre_lldp.specs.LinkState.{Verify, verifies_since, last_verify, run_start, is_answered, is_verified_since}
 use Rattle.pre_verify.specs.Calls.{Call, settled, good_of, verifies_of, settles, end_last}
-use Rattle.pre_verify.specs.Verifiers.{IsBy, IsBefore, IsQuiet, IsRun, IsPresent, Stands, is_trying, is_wanting, waited}
+use Rattle.pre_verify.specs.Verifiers.{IsBy, IsBelow, IsQuiet, IsRun, IsPresent, Stands, is_trying, is_wanting, waited}
 use Rattle.pre_verify.specs.declared.verifiers.Verifier.{Verifier}
 use Rattle.pre_verify.proofs.Lists.{or_false, any_same, any_either, unanswered, answered-push, none_since, any-end_last, length-end_last, last-end_last}
 use Rattle.pre_verify.proofs.Runs.{good_of-push, run_local, run_on, run_before, no_run}
@@ -73,13 +73,13 @@ verified-begun T t verifies responds (Some u) verified heard e =
     and_false true = refl
     and_false false = refl
 
-pub newest-begun : (t u : ℕ) (last : Option ℕ) (verifies : List Verify) → ((w : ℕ) → IsBefore last w → verifies_since w verifies ≡ []) → IsBy last t → t < u
+pub newest-begun : (t u : ℕ) (last : Option ℕ) (verifies : List Verify) → ((w : ℕ) → IsBelow last w → verifies_since w verifies ≡ []) → IsBy last t → t < u
     → verifies_since u (verifies ++ record { began = t; ended = None } ∷ []) ≡ []
 newest-begun t u last verifies newest by late =
     filter-append (λ x. leb u x.began) verifies (record { began = t; ended = None } ∷ [])
     ∙ ap₂ (λ xs b. xs ++ cond b (record { began = t; ended = None } ∷ []) []) (newest u (before last by)) (lt-leb u t late)
   where
-    before : (o : Option ℕ) → IsBy o t → IsBefore o u
+    before : (o : Option ℕ) → IsBy o t → IsBelow o u
     before None h = tt
     before (Some s) h = omega (arith, h)
 
@@ -157,15 +157,15 @@ settles-from s t before good h = cond-true (leb s t) good before (le-leb s t h)
 settles-before : (s t : ℕ) (before good : Bool) → t < s → cond (leb s t) good before ≡ before
 settles-before s t before good h = cond-false (leb s t) good before (lt-leb s t h)
 
-by_before : (o : Option ℕ) (t : ℕ) → IsBefore o (suc t) → IsBy o t
+by_before : (o : Option ℕ) (t : ℕ) → IsBelow o (suc t) → IsBy o t
 by_before None t h = tt
 by_before (Some s) t h = omega (arith, h)
 
-pub run-new : (v : Verifier) (wait : ℕ) (calls : List Call) (s : ℕ) → Stands v wait calls → v.since ≡ None → IsBefore (option_map (λ tick. tick.0) v.settled) s
+pub run-new : (v : Verifier) (wait : ℕ) (calls : List Call) (s : ℕ) → Stands v wait calls → v.since ≡ None → IsBelow (option_map (λ tick. tick.0) v.settled) s
     → run_start (good_of (calls ++ settled s true ∷ [])) s ≡ Some s
 run-new v wait calls s st none later = go s later
   where
-    go : (s : ℕ) → IsBefore (option_map (λ tick. tick.0) v.settled) s → run_start (good_of (calls ++ settled s true ∷ [])) s ≡ Some s
+    go : (s : ℕ) → IsBelow (option_map (λ tick. tick.0) v.settled) s → run_start (good_of (calls ++ settled s true ∷ [])) s ≡ Some s
     go zero h = ap (λ b. cond b (Some 0) None) (good_of-push calls (settled 0 true) 0 ∙ settles-from 0 0 (good_of calls 0) true (omega arith))
     go (suc p) h =
         let call : Call = settled (suc p) true in
@@ -174,10 +174,10 @@ run-new v wait calls s st none later = go s later
         ap₂ (λ b o. cond b (Some (unwrap_or o (suc p))) None) here (no_run (good_of (calls ++ call ∷ [])) p before)
 
 pub run-continued : (v : Verifier) (wait : ℕ) (calls : List Call) (s u : ℕ) → Stands v wait calls → v.since ≡ Some u → is_some (option_map (λ tick. tick.0) v.settled) ≡ true → v.latest.0 ≤ s
-    → IsBefore (option_map (λ tick. tick.0) v.settled) s → run_start (good_of (calls ++ settled s true ∷ [])) s ≡ Some u
+    → IsBelow (option_map (λ tick. tick.0) v.settled) s → run_start (good_of (calls ++ settled s true ∷ [])) s ≡ Some u
 run-continued v wait calls s u st is some le later = go s le later
   where
-    never : (o : Option ℕ) → is_some o ≡ true → IsBefore o 0 → ⊥
+    never : (o : Option ℕ) → is_some o ≡ true → IsBelow o 0 → ⊥
     never None e h = false≢true e
     never (Some r) e h = absurd (omega (arith, h))
 
@@ -185,7 +185,7 @@ run-continued v wait calls s u st is some le later = go s le later
     at p le good (inl before) = let same : suc p ≡ v.latest.0 = omega arith in run_before (good_of calls) p u (ap (run_start (good_of calls)) same ∙ st.run ∙ is) good
     at p le good (inr after) = run_at v wait calls p st after ∙ is
 
-    go : (s : ℕ) → v.latest.0 ≤ s → IsBefore (option_map (λ tick. tick.0) v.settled) s → run_start (good_of (calls ++ settled s true ∷ [])) s ≡ Some u
+    go : (s : ℕ) → v.latest.0 ≤ s → IsBelow (option_map (λ tick. tick.0) v.settled) s → run_start (good_of (calls ++ settled s true ∷ [])) s ≡ Some u
     go zero le h = absurd (never (option_map (λ tick. tick.0) v.settled) some h)
     go (suc p) le h =
         let call : Call = settled (suc p) true in
@@ -195,8 +195,8 @@ run-continued v wait calls s u st is some le later = go s le later
         run_local (good_of (calls ++ call ∷ [])) (good_of calls) p (λ i below. good_of-push calls call i ∙ settles-before (suc p) i (good_of calls i) true (omega arith)) in
         run_on (good_of (calls ++ call ∷ [])) p u (local ∙ at p le good (cases_lt p v.latest.0)) here
 
-pub quiet-before : (last settle_tick : Option ℕ) (t : ℕ) → IsQuiet last settle_tick → IsBefore settle_tick t → IsBefore last t
-quiet-before last None t e h = subst (λ o. IsBefore o t) (sym e) tt
+pub quiet-before : (last settle_tick : Option ℕ) (t : ℕ) → IsQuiet last settle_tick → IsBelow settle_tick t → IsBelow last t
+quiet-before last None t e h = subst (λ o. IsBelow o t) (sym e) tt
 quiet-before None (Some s) t q h = tt
 quiet-before (Some b) (Some s) t q h = omega (arith, q, h)
 
@@ -243,7 +243,7 @@ none_from None e = refl
 none_from (Some u) e = absurd cc
 
 pub run-continued_any : (v : Verifier) (wait : ℕ) (calls : List Call) (s : ℕ) → Stands v wait calls → is_some v.since ≡ true → v.latest.0 ≤ s
-    → IsBefore (option_map (λ tick. tick.0) v.settled) s → run_start (good_of (calls ++ settled s true ∷ [])) s ≡ v.since
+    → IsBelow (option_map (λ tick. tick.0) v.settled) s → run_start (good_of (calls ++ settled s true ∷ [])) s ≡ v.since
 run-continued_any v wait calls s st some le later =
     let u = some_from v.since some in
     run-continued v wait calls s u.0 st u.1 (settled_in_run (option_map (λ tick. tick.0) v.settled) v.latest.0 v.attempts v.last v.first (verifies_of calls) v.since some st.present) le later ∙ sym u.1

@@ -11,9 +11,9 @@ abbrev pub IsBy : Option ℕ → ℕ → Type 0
 IsBy None t = ⊤
 IsBy (Some s) t = s ≤ t
 
-abbrev pub IsBefore : Option ℕ → ℕ → Type 0
-IsBefore None t = ⊤
-IsBefore (Some s) t = s < t
+abbrev pub IsBelow : Option ℕ → ℕ → Type 0
+IsBelow None t = ⊤
+IsBelow (Some s) t = s < t
 
 abbrev pub IsFrom : ℕ → Option ℕ → Type 0
 IsFrom t None = ⊥
@@ -48,7 +48,7 @@ pub record Stands (v : Verifier) (wait : ℕ) (calls : List Call) : Type 0 where
   pub heard : (t began : ℕ) → v.latest.0 ≤ t → is_answered (responds_of calls) t began ≡ is_answered (responds_of calls) v.latest.0 began
   pub verified : v.verified ≡ is_verified_since (verifies_of calls) (responds_of calls) v.latest.0 v.since
   pub last : last_verify (verifies_of calls) ≡ option_map (λ b. record { began = b; ended = v.ended }) v.last
-  pub newest : (u : ℕ) → IsBefore v.last u → verifies_since u (verifies_of calls) ≡ []
+  pub newest : (u : ℕ) → IsBelow v.last u → verifies_since u (verifies_of calls) ≡ []
   pub present : IsPresent (option_map (λ tick. tick.0) v.settled) v.latest.0 v.attempts v.last v.first (verifies_of calls) v.since
 
 -- a verify is under way

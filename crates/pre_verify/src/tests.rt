@@ -1,5 +1,5 @@
 ghost use Rattle.std.specs.Prelude.{◌≡◌, true, option_map};
-ghost use Rattle.pre_verify.specs.Verifiers.{IsBefore};
+ghost use Rattle.pre_verify.specs.Verifiers.{IsBelow};
 
 use super::*;
 use pre_base::Tick;
@@ -14,7 +14,7 @@ enum Call {
 }
 
 fn is_later(settled: Option<Tick>, now: Tick) -> bool
-    ensures { result ≡ true → IsBefore (option_map (λ tick. tick.0) settled) now.0 }
+    ensures { result ≡ true → IsBelow (option_map (λ tick. tick.0) settled) now.0 }
 {
     match settled {
         Some(settled) => settled.0 < now.0,

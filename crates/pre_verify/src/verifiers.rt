@@ -36,7 +36,7 @@ pub struct Verifier {
 impl Verifier {
     ghost use Rattle.pre_verify.specs.Calls.{Call, settled, begun, ended, responded, last_tick, verifies_of, is_going, wanted_at, state_at, IsDue};
     ghost use Rattle.pre_lldp.specs.LinkState.{last_verify};
-    ghost use Rattle.pre_verify.specs.Verifiers.{Stands, IsBefore, is_trying, is_under_way, is_wanting, waited};
+    ghost use Rattle.pre_verify.specs.Verifiers.{Stands, IsBelow, is_trying, is_under_way, is_wanting, waited};
 
     /// A verifier that waits so many ticks for a respond.
     pub fn new(wait: u64) -> Verifier
@@ -61,7 +61,7 @@ impl Verifier {
     /// Tells whether the link is good at this tick, and at later ones until it is settled anew.
     pub fn settle(&mut self, now: Tick, good: bool)
         requires order { self.old.latest.0 ≤ now.0 }
-        requires later { IsBefore (option_map (λ tick. tick.0) self.old.settled) now.0 }
+        requires later { IsBelow (option_map (λ tick. tick.0) self.old.settled) now.0 }
         ensures latest { self.new.latest ≡ now }
         ensures settled { self.new.settled ≡ Some now }
         ensures stands { (wait : ℕ) (calls : List Call) → Stands self.old wait calls

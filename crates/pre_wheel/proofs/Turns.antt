@@ -8,7 +8,7 @@ use Rattle.std.specs.Option.{option_map}
 use Rattle.std.specs.FinMap as map
 use Rattle.pre_base.specs.declared.numbers.Tick.{Tick}
 use Rattle.pre_wheel.specs.declared.entries.Entry.{Entry}
-use Rattle.pre_wheel.specs.Dues.{Dues, ComesFirst, IsLeast, IsEmpty, with_due}
+use Rattle.pre_wheel.specs.Dues.{Dues, ComesFirst, IsFirstDue, IsEmpty, with_due}
 use Rattle.pre_wheel.specs.Winners.{NoLater, IsEarlier, IsWon, IsTournament, leaf_of, dues_of, node_at}
 use Rattle.pre_wheel.proofs.Games.{root_is_first, node_is_leaf}
 use Rattle.pre_wheel.proofs.Leaves.{tick_of, same_key, other_key, get-dues_of}
@@ -100,10 +100,10 @@ later_entry e (Some x) q u h there own =
     let tick : x.tick.0 ≡ u = cc in
     subst (λ n. ComesFirst e.tick.0 e.member n q) tick (subst (λ n. ComesFirst e.tick.0 e.member x.tick.0 n) (own x refl) h)
 
-pub root_is_least : (members : ℕ) (nodes : List (Option Entry)) (dues : Dues) (e : Entry) → dues_of members nodes ≡ dues → IsTournament members nodes → 0 < members → node_at nodes 1 ≡ Some e → IsLeast dues e.member e.tick.0
+pub root_is_least : (members : ℕ) (nodes : List (Option Entry)) (dues : Dues) (e : Entry) → dues_of members nodes ≡ dues → IsTournament members nodes → 0 < members → node_at nodes 1 ≡ Some e → IsFirstDue dues e.member e.tick.0
 root_is_least members nodes dues e view is some root =
     let own = root_is_own members nodes e is some root in
-    subst (λ d. IsLeast d e.member e.tick.0) view (record {
+    subst (λ d. IsFirstDue d e.member e.tick.0) view (record {
       there = get-dues_of members nodes e.member ∙ ap tick_of own.1;
       first = λ q u has.
           let there = sym (get-dues_of members nodes q) ∙ has in

@@ -24,7 +24,7 @@ abbrev pub ComesFirst : ℕ → ℕ → ℕ → ℕ → Type 0
 ComesFirst tick member other_tick other = (tick < other_tick) ⊎ ((tick ≡ other_tick) × (member ≤ other))
 
 -- the member has this tick, and no entry comes before it
-pub record IsLeast (dues : Dues) (member tick : ℕ) : Type 0 where
+pub record IsFirstDue (dues : Dues) (member tick : ℕ) : Type 0 where
   pub there : map.get dues.due member ≡ Some tick
   pub first : (other other_tick : ℕ) → map.get dues.due other ≡ Some other_tick → ComesFirst tick member other_tick other
 

@@ -1,7 +1,7 @@
 ghost use Rattle.std.specs.Prelude.{◌≡◌, ℕ, ◌<◌};
 ghost use Rattle.std.specs.Option.{option_map};
 ghost use Rattle.std.specs.FinMap as map;
-ghost use Rattle.pre_wheel.specs.Dues.{Dues, IsLeast};
+ghost use Rattle.pre_wheel.specs.Dues.{Dues, IsFirstDue};
 ghost use Rattle.pre_wheel.specs.Until.{is_over};
 
 use super::*;
@@ -37,7 +37,7 @@ impl Timed for Alarm {
 // An alarm on a wheel rings at no tick below the least entry's where it didn't ring before.
 fn alarms_stay()
     ensures { (dues : Dues) (first tick member t : ℕ) (a : Alarm)
-        → IsLeast dues first tick → map.get dues.due member ≡ option_map (λ d. d.0) a.at
+        → IsFirstDue dues first tick → map.get dues.due member ≡ option_map (λ d. d.0) a.at
         → a.called.0 < t → t < tick → is_over a.at t ≡ is_over a.at a.called.0 }
 {
     machines_stay::<Alarm>();

@@ -8,7 +8,7 @@ use pre_base::Tick;
 pub trait Timed {
     ghost use Rattle.std.specs.Prelude.{◌≡◌, ℕ, ◌<◌, Option};
     ghost use Rattle.pre_base.specs.declared.numbers.Tick.{Tick};
-    ghost use Rattle.pre_wheel.specs.Until.{IsBefore};
+    ghost use Rattle.pre_wheel.specs.Until.{IsDueAfter};
 
     ghost last: { Self → ℕ };
 
@@ -23,5 +23,5 @@ pub trait Timed {
     fn due(&self) -> Option<Tick>
         ensures { result ≡ falls_due self.now };
 
-    ghost stays: { (machine : Self) (t : ℕ) → last machine < t → IsBefore t (falls_due machine) → told machine t ≡ told machine (last machine) };
+    ghost stays: { (machine : Self) (t : ℕ) → last machine < t → IsDueAfter t (falls_due machine) → told machine t ≡ told machine (last machine) };
 }

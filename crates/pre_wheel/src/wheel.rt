@@ -1,7 +1,7 @@
 ghost use Rattle.std.specs.Prelude.{◌≡◌, ◌<◌, IfOk, IfSome, IfNone, None};
 ghost use Rattle.std.specs.FinMap as map;
 ghost use Rattle.std.specs.Ordering.{nat_cmp};
-ghost use Rattle.pre_wheel.specs.Dues.{IsLeast, IsEmpty, with_due};
+ghost use Rattle.pre_wheel.specs.Dues.{IsFirstDue, IsEmpty, with_due};
 
 use crate::entries::{Entry, leaf, renew};
 use pre_base::Tick;
@@ -61,7 +61,7 @@ impl Wheel {
     /// where no member has a tick.
     pub fn next(&mut self) -> Option<(Tick, u16)>
         ensures member { IfSome result (λ entry. entry.1 < self.old.members) }
-        ensures least { IfSome result (λ entry. IsLeast self.old entry.1 entry.0.0) }
+        ensures least { IfSome result (λ entry. IsFirstDue self.old entry.1 entry.0.0) }
         ensures out { IfSome result (λ entry. self.new ≡ with_due self.old entry.1 None) }
         ensures members { self.new.members ≡ self.old.members }
         ensures none { IfNone result (IsEmpty self.old) }

@@ -3,7 +3,7 @@ use Rattle.std.proofs.Common.{ℕ, zero, suc, ◌≡◌, ◌==◌, ◌+◌, ◌-
 use Rattle.std.specs.Prelude.{if◌then◌else◌, slice_get}
 use Rattle.std.proofs.lemmas.Bool.Decides.{nat_tests}
 use Rattle.pre_crc.specs.Checks.{Mcrc}
-use Rattle.pre_crc.specs.CheckFacts.{length-Mcrc}
+use Rattle.pre_crc.proofs.CheckFacts.{length-Mcrc}
 use Rattle.pre_lldp.specs.LldpLayout.{is_lldp_frame}
 use Rattle.pre_lldp.proofs.ReadBack.{sent-length, sent-lldp}
 use Rattle.pre_mpacket.specs.declared.packets.Kind.{Kind}

@@ -1,4 +1,4 @@
-use Rattle.pre_crc.specs.CheckFacts.{length-Fcs, length-Mcrc}
+use Rattle.pre_crc.proofs.CheckFacts.{length-Fcs, length-Mcrc}
 use Rattle.pre_crc.proofs.CheckFacts.{Fcs-octets, Mcrc-octets, Fcs-differs}
 use Rattle.pre_crc.proofs.checks_law.Goals as goal
 

@@ -35,6 +35,15 @@ returns-in_ok-written-in-Ok-clause-ranked c =
     (subst (λ rows. HaveRoom c.args.net.now rows d) c.as_slice.ensures c.in-Ok.ensures.room)
     (subst (λ rows. Says c.args.net.now rows c.in_ok-written-in-Ok.field-0 (values_over c.args.net.now rows r d)) c.as_slice-in-Ok.ensures c.in_ok-written-in-Ok.ensures)).1
 
+pub returns-in_ok-written-in-Ok-clause-settled : goal.returns-in_ok-written-in-Ok-clause-settled
+returns-in_ok-written-in-Ok-clause-settled c = record {
+  rank = ranks_in c.args.ranks.now;
+  ranks = c.requires.ranks.are;
+  delays = delays_in c.args.delays.now;
+  settled = settled_delays c.args.net.now c.args.streams.now c.as_slice-in-Ok.result.now c.args.ranks.now c.args.delays.now c.as_slice-in-Ok.ensures c.requires.fits c.requires.prios c.requires.ranks c.requires.table;
+  says = subst (λ rows. Says c.args.net.now rows c.in_ok-written-in-Ok.field-0 (values_over c.args.net.now rows (ranks_in c.args.ranks.now) (delays_in c.args.delays.now))) c.as_slice-in-Ok.ensures c.in_ok-written-in-Ok.ensures;
+}
+
 pub returns-in-Err-clause-cause : goal.returns-in-Err-clause-cause
 returns-in-Err-clause-cause c =
     let r = ranks_in c.args.ranks.now in

@@ -1,7 +1,7 @@
 use Rattle.pre_certify.specs.Text.{bound_line}
-use Rattle.pre_certify.proofs.Lines.{line_fails}
+use Rattle.pre_base.proofs.Pieces.{piece_fails}
 use Rattle.pre_certify.proofs.text.put_bounds.Goals as goal
 
 pub returns-in_err-put_bound-clause-octets : goal.returns-in_err-put_bound-clause-octets
 returns-in_err-put_bound-clause-octets g c =
-    line_fails (bound_line c.args.streams.now) c.args.rows.now c.loop-row.row-index ((record { 0 = 0 }, 0)) _ _ _ c.from_residual.result c.loop-row-test.true c.from_residual.ensures.0 c.loop-row.invariant.taken c.in_err-put_bound.ensures.octets
+    piece_fails (bound_line c.args.streams.now) c.args.rows.now c.loop-row.row-index ((record { 0 = 0 }, 0)) _ _ _ c.from_residual.result c.loop-row-test.true c.from_residual.ensures.0 c.loop-row.invariant.taken c.in_err-put_bound.ensures.octets

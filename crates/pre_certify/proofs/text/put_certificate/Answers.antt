@@ -1,6 +1,7 @@
 use Rattle.std.proofs.Common.{◌++◌, rules}
 use Rattle.pre_base.specs.Told.{WhereTold}
-use Rattle.pre_base.specs.Pieces.{TakesWhole, TakesFront, untouched, goes_on, breaks, ends}
+use Rattle.pre_base.specs.Sinks.{TakesWhole, TakesFront}
+use Rattle.pre_base.proofs.Pieces.{untouched, goes_on, breaks, ends}
 use Rattle.pre_certify.specs.Text.{first_line, arc_lines, port_lines, hop_lines, bound_lines, last_line, certificate_text}
 use Rattle.pre_certify.proofs.text.put_certificate.Goals as goal
 

@@ -2,7 +2,7 @@ use Rattle.std.proofs.Common.{◌≡◌, ◌<◌, ℕ, List, length, sym, subst}
 use Rattle.std.specs.Prelude.{All}
 use Rattle.pre_base.specs.declared.numbers.StreamId.{StreamId}
 use Rattle.pre_base.specs.Told.{WhereTold}
-use Rattle.pre_base.specs.Pieces.{TakesFront, TakesWhole}
+use Rattle.pre_base.specs.Sinks.{TakesFront, TakesWhole}
 use Rattle.pre_history.specs.Scenario.{Scenario}
 use Rattle.pre_trace.specs.SummaryText.{summary_text}
 use Rattle.pre_cli.specs.Certifying.{HasLeast}

@@ -1,6 +1,6 @@
 use Rattle.std.proofs.Common.{◌++◌, codes, rules}
 use Rattle.pre_base.specs.Told.{WhereTold}
-use Rattle.pre_base.specs.Pieces.{TakesWhole, TakesFront}
+use Rattle.pre_base.specs.Sinks.{TakesWhole, TakesFront}
 use Rattle.pre_cli.specs.Statuses.{behind_space}
 use Rattle.pre_cli.proofs.Two.{two_breaks, two_ends}
 use Rattle.pre_cli.proofs.refusals.put_large.Goals as goal

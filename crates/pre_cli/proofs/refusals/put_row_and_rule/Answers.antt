@@ -1,6 +1,6 @@
 use Rattle.std.proofs.Common.{rules}
 use Rattle.pre_base.specs.Told.{WhereTold}
-use Rattle.pre_base.specs.Pieces.{TakesWhole, TakesFront}
+use Rattle.pre_base.specs.Sinks.{TakesWhole, TakesFront}
 use Rattle.pre_cli.specs.Statuses.{behind_space, row_words}
 use Rattle.pre_cli.proofs.Two.{two_breaks, two_ends}
 use Rattle.pre_cli.proofs.refusals.put_row_and_rule.Goals as goal

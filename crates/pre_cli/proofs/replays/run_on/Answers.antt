@@ -1,5 +1,5 @@
 use Rattle.std.proofs.Common.{rules}
-use Rattle.pre_sim.specs.Told.{goes_nowhere, goes_further, step_then}
+use Rattle.pre_sim.proofs.Told.{goes_nowhere, goes_further, step_then}
 use Rattle.pre_cli.proofs.Steps.{cause_then}
 use Rattle.pre_cli.proofs.replays.run_on.Goals as goal
 

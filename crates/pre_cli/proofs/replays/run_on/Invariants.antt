@@ -1,5 +1,5 @@
 use Rattle.std.proofs.Common.{◌≡◌, ◌≤◌, ◌+◌, ◌-◌, true}
-use Rattle.pre_sim.specs.Told.{GoesOnFrom}
+use Rattle.pre_sim.proofs.Told.{GoesOnFrom}
 use Rattle.pre_cli.proofs.replays.run_on.Given as goal
 
 abbrev pub invariant-loop-last : goal.invariant-loop-last

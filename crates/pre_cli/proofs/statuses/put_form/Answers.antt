@@ -1,6 +1,6 @@
 use Rattle.std.proofs.Common.{◌++◌, codes, List, ℕ, subst}
 use Rattle.pre_base.specs.Told.{WhereTold}
-use Rattle.pre_base.specs.Pieces.{TakesWhole, TakesFront}
+use Rattle.pre_base.specs.Sinks.{TakesWhole, TakesFront}
 use Rattle.pre_cli.specs.Statuses.{behind_space, file_word}
 use Rattle.pre_cli.proofs.Two.{two_breaks, two_ends}
 use Rattle.pre_cli.proofs.statuses.put_form.Goals as goal

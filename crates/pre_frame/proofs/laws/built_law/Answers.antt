@@ -1,5 +1,5 @@
 use Rattle.std.proofs.Common.{arith}
-use Rattle.pre_frame.specs.FrameFacts.{length-frame_of}
+use Rattle.pre_frame.proofs.FrameFacts.{length-frame_of}
 use Rattle.pre_frame.proofs.BuiltLaws.{IsFrame-built, frame_number-frame_of, frame_of-octets, frame_of-differs}
 use Rattle.pre_frame.proofs.laws.built_law.Goals as goal
 

@@ -2,7 +2,7 @@ use Rattle.std.proofs.Common.{ℕ, zero, suc, ◌⊎◌, List, [], ◌∷◌, in
 use Rattle.std.specs.Prelude.{Contains}
 use Rattle.std.proofs.lemmas.Bool.Decides.{eqb_tells}
 use Rattle.std.proofs.lemmas.Map.Made.{Contains-tail}
-use Rattle.pre_mpacket.specs.CutSizes.{cut_one, cut_some}
+use Rattle.pre_mpacket.proofs.CutSizes.{cut_one, cut_some}
 use Rattle.pre_mpacket.proofs.laws.one_size.Goals as goal
 
 -- whether a list contains a number is decided

@@ -1,6 +1,6 @@
 use Rattle.std.proofs.Common.{subst}
 use Rattle.pre_base.specs.Told.{WhereTold}
-use Rattle.pre_base.specs.Pieces.{TakesFront}
+use Rattle.pre_base.specs.Sinks.{TakesFront}
 use Rattle.pre_script.specs.declared.scripts.Damage.{Damage}
 use Rattle.pre_script.specs.Text.{damage_line}
 use Rattle.pre_script.proofs.Lines.{line_breaks}

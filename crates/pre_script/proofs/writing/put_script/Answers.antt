@@ -1,6 +1,7 @@
 use Rattle.std.proofs.Common.{◌++◌, rules}
 use Rattle.pre_base.specs.Told.{WhereTold}
-use Rattle.pre_base.specs.Pieces.{TakesWhole, TakesFront, untouched, goes_on, breaks, ends}
+use Rattle.pre_base.specs.Sinks.{TakesWhole, TakesFront}
+use Rattle.pre_base.proofs.Pieces.{untouched, goes_on, breaks, ends}
 use Rattle.pre_script.specs.Text.{script_text, timed_lines, loss_lines, damage_lines, until_line}
 use Rattle.pre_script.proofs.writing.put_script.Goals as goal
 

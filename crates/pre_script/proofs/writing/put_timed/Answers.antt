@@ -1,4 +1,4 @@
-use Rattle.pre_base.specs.Pieces.{ends}
+use Rattle.pre_base.proofs.Pieces.{ends}
 use Rattle.pre_script.specs.Text.{set_lines, timed_lines}
 use Rattle.pre_script.proofs.Timed.{sets_break, send_breaks, all_sent}
 use Rattle.pre_script.proofs.writing.put_timed.Goals as goal

@@ -6,7 +6,7 @@ use Rattle.pre_history.specs.Scenario.{Scenario}
 use Rattle.pre_bridge.specs.Inside.{inside}
 use Rattle.pre_links.specs.Standing.{IsReady}
 use Rattle.pre_sim.specs.Parts.{ArrivalPart, ArrivalsAlias, ArrivalsPart, LaneAlias, LaneFront, LanesFront, count_of, scenario_of}
-use Rattle.pre_sim.specs.Told.{tells_nothing, tells_then}
+use Rattle.pre_sim.proofs.Told.{tells_nothing, tells_then}
 use Rattle.pre_sim.proofs.Lists.{found_at}
 use Rattle.pre_sim.proofs.Readiness.{ready_set}
 use Rattle.pre_sim.proofs.TellParts.{byte_of, then_early}

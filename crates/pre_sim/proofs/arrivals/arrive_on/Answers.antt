@@ -5,7 +5,7 @@ use Rattle.pre_history.specs.Scenario.{Scenario, FrameOf}
 use Rattle.pre_history.specs.Rules.{arrival}
 use Rattle.pre_sim.specs.Arriving.{KeepsInside, delivered_at}
 use Rattle.pre_sim.specs.Telling.{TellsAll}
-use Rattle.pre_sim.specs.Told.{tells_nothing, tells_then}
+use Rattle.pre_sim.proofs.Told.{tells_nothing, tells_then}
 use Rattle.pre_sim.specs.Parts.{ArrivalPart, LaneAlias, LaneFront, TellsOne, count_of, scenario_of}
 use Rattle.pre_sim.proofs.ArrivalRooms.{finds_room, leads}
 use Rattle.pre_sim.proofs.ArrivalParts.{HasLanded, GivesFrame, gives_frame, none_part, alias_part, arrival_front, plain_part, both_front, ends_here, kept_arrival, given_arrival}

@@ -2,7 +2,7 @@ use Rattle.std.proofs.Common.{rules, ◌≡◌, refl, sym, subst, [], ◌∷◌,
 use Rattle.pre_history.specs.Scenario.{Scenario}
 use Rattle.pre_history.specs.History.{PlainEvent}
 use Rattle.pre_sim.specs.Parts.{CountsFront, ClosesPart, ClosesFront, TellsOne, end_event, scenario_of}
-use Rattle.pre_sim.specs.Told.{tells_nothing}
+use Rattle.pre_sim.proofs.Told.{tells_nothing}
 use Rattle.pre_sim.proofs.TellParts.{then_front, then_part, part_of_one}
 use Rattle.pre_sim.proofs.ClosingParts.{closes, counts_front, end_front}
 use Rattle.pre_sim.proofs.closing.close.Goals as goal

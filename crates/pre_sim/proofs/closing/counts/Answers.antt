@@ -3,7 +3,7 @@ use Rattle.std.specs.Prelude.{slice_get}
 use Rattle.pre_history.specs.Scenario.{Scenario}
 use Rattle.pre_sim.specs.Closing.{TellsCounts}
 use Rattle.pre_sim.specs.Parts.{CountsPart, scenario_of}
-use Rattle.pre_sim.specs.Told.{tells_nothing, tells_then}
+use Rattle.pre_sim.proofs.Told.{tells_nothing, tells_then}
 use Rattle.pre_sim.proofs.Lists.{found_at}
 use Rattle.pre_sim.proofs.TellParts.{then_front}
 use Rattle.pre_sim.proofs.ClosingParts.{no_lines, one_more_line, one_more_front}

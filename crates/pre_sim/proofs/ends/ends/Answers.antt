@@ -6,7 +6,7 @@ use Rattle.std.proofs.lemmas.List.{length-set}
 use Rattle.pre_bridge.specs.Inside.{of_arc}
 use Rattle.pre_sim.specs.Keeps.{Keeps}
 use Rattle.pre_sim.specs.Parts.{LanePart, LaneFront, LanesPart, scenario_of}
-use Rattle.pre_sim.specs.Told.{tells_nothing, tells_then}
+use Rattle.pre_sim.proofs.Told.{tells_nothing, tells_then}
 use Rattle.pre_sim.proofs.Lists.{found_at}
 use Rattle.pre_sim.proofs.Rows.{lane_more, front_more, lanes_begin}
 use Rattle.pre_sim.proofs.Readiness.{ready_set}

@@ -2,7 +2,7 @@ use Rattle.std.proofs.Common.{rules, ap, sym, ◌∙◌, ◌≡◌, [], Some, re
 use Rattle.std.specs.Prelude.{slice_get, slice_index_or}
 use Rattle.pre_sim.specs.declared.lanes.Lane.{Lane}
 use Rattle.pre_sim.specs.Parts.{RingTells, RingFront, NoArrival, scenario_of}
-use Rattle.pre_sim.specs.Told.{tells_nothing}
+use Rattle.pre_sim.proofs.Told.{tells_nothing}
 use Rattle.pre_sim.proofs.Lists.{found_at}
 use Rattle.pre_sim.proofs.LinksKept.{links_set}
 use Rattle.pre_sim.proofs.TellParts.{then_part}

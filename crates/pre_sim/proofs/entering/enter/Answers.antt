@@ -3,7 +3,7 @@ use Rattle.std.specs.Prelude.{set}
 use Rattle.pre_rings.specs.Ports.{frames_at, capacity_at, with_frames}
 use Rattle.pre_history.specs.History.{PlainEvent}
 use Rattle.pre_sim.specs.Parts.{RingFront, NoArrival}
-use Rattle.pre_sim.specs.Told.{tells_nothing}
+use Rattle.pre_sim.proofs.Told.{tells_nothing}
 use Rattle.pre_sim.proofs.TellParts.{part_of_one, then_front}
 use Rattle.pre_sim.proofs.entering.enter.Goals as goal
 

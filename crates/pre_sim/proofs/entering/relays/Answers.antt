@@ -3,10 +3,10 @@ use Rattle.pre_bridge.specs.Inside.{inside}
 use Rattle.pre_laws.proofs.Fitting.{is_routed}
 use Rattle.pre_sim.specs.Parts.{scenario_of}
 use Rattle.pre_sim.specs.Sends.{ComesFront, comes_to, drops_of}
-use Rattle.pre_sim.specs.Told.{tells_nothing, tells_then}
+use Rattle.pre_sim.proofs.Told.{tells_nothing, tells_then}
 use Rattle.pre_sim.proofs.LinksKept.{links_then}
 use Rattle.pre_sim.proofs.TellParts.{then_front}
-use Rattle.pre_sim.proofs.EntriesTakes.{TakeLaws, TakesPart, Gives, none_taken, one_taken, taken_front, all_taken, no_more_taken, keeps_taken, keeps_none, lost_byte, one_dropped}
+use Rattle.pre_sim.proofs.EntriesTakes.{TakeLaws, TakesPart, RelayGives, none_taken, one_taken, taken_front, all_taken, no_more_taken, keeps_taken, keeps_none, lost_byte, one_dropped}
 use Rattle.pre_sim.proofs.entering.relays.Goals as goal
 
 pub loop-arc-init : goal.loop-arc-init
@@ -90,7 +90,7 @@ pub returns-in_default-clause-kept : goal.returns-in_default-clause-kept
 returns-in_default-clause-kept g c =
     let w = scenario_of c.args.plan.now in
     let laws : TakeLaws = record { each = c.takes_law.ensures.each; comes_out = c.turn_law.ensures.comes_out; turn = c.turn_law.ensures.turn } in
-    let none : Gives c.loop-arc.relay c.args.now.0 None = λ net streams calls stands. sym c.in_default.is ∙ c.take_due.ensures.given net streams calls stands in
+    let none : RelayGives c.loop-arc.relay c.args.now.0 None = λ net streams calls stands. sym c.in_default.is ∙ c.take_due.ensures.given net streams calls stands in
     keeps_none w (is_routed w c.requires.fit.streams_fit c.requires.fit.script_fits) laws c.args.now.0 c.loop-arc.store c.loop-arc.relay c.take_due.new.self c.loop-arc.lanes
     c.take_due.ensures.stands none c.loop-arc.invariant.kept
 
@@ -98,7 +98,7 @@ pub returns-in_default-clause-part : goal.returns-in_default-clause-part
 returns-in_default-clause-part g c =
     let w = scenario_of c.args.plan.now in
     let laws : TakeLaws = record { each = c.takes_law.ensures.each; comes_out = c.turn_law.ensures.comes_out; turn = c.turn_law.ensures.turn } in
-    let none : Gives c.loop-arc.relay c.args.now.0 None = λ net streams calls stands. sym c.in_default.is ∙ c.take_due.ensures.given net streams calls stands in
+    let none : RelayGives c.loop-arc.relay c.args.now.0 None = λ net streams calls stands. sym c.in_default.is ∙ c.take_due.ensures.given net streams calls stands in
     let part = c.loop-arc.invariant.part in (
       part.0,
       part.1,

@@ -3,7 +3,7 @@ use Rattle.pre_laws.proofs.Fitting.{is_routed}
 use Rattle.pre_history.specs.Scenario.{FrameOf}
 use Rattle.pre_sim.specs.Parts.{ComePart, NoArrival, scenario_of}
 use Rattle.pre_sim.specs.Sends.{ComesFront, comes_to, drops_of, sent_frame}
-use Rattle.pre_sim.specs.Told.{tells_nothing}
+use Rattle.pre_sim.proofs.Told.{tells_nothing}
 use Rattle.pre_sim.proofs.Keeping.{keep_sent}
 use Rattle.pre_sim.proofs.TellParts.{then_part, on_ok}
 use Rattle.pre_sim.proofs.EntriesRun.{comes_same, front_same}

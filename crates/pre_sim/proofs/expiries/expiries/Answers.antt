@@ -7,7 +7,7 @@ use Rattle.pre_history.specs.Scenario.{Scenario}
 use Rattle.pre_links.specs.declared.partners.Partner.{Partner}
 use Rattle.pre_sim.specs.Keeps.{Store}
 use Rattle.pre_sim.specs.declared.lanes.Lane.{Lane}
-use Rattle.pre_sim.specs.Told.{tells_nothing, tells_then}
+use Rattle.pre_sim.proofs.Told.{tells_nothing, tells_then}
 use Rattle.pre_sim.specs.Parts.{LanePart, LaneFront, LanesPart, scenario_of}
 use Rattle.pre_sim.proofs.Lists.{found_at}
 use Rattle.pre_sim.proofs.Readiness.{settled_set, all_settled}

@@ -1,7 +1,7 @@
 use Rattle.std.proofs.Common.{rules, ◌≡◌, ◌++◌, []}
 use Rattle.pre_sim.specs.Parts.{TickFront, CarriesAlias, ClosesFront, scenario_of}
 use Rattle.pre_sim.proofs.TellParts.{then_early, then_front}
-use Rattle.pre_sim.specs.Told.{tells_nothing, tells_then}
+use Rattle.pre_sim.proofs.Told.{tells_nothing, tells_then}
 use Rattle.pre_sim.proofs.AdvanceParts.{front_of_tick, closes, closes_front}
 use Rattle.pre_sim.proofs.ticks.advance.Goals as goal
 

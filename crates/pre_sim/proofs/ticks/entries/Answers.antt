@@ -5,7 +5,7 @@ use Rattle.pre_bridge.specs.Inside.{inside}
 use Rattle.pre_sim.specs.Keeps.{Keeps}
 use Rattle.pre_sim.specs.Parts.{scenario_of}
 use Rattle.pre_sim.specs.Sends.{RelaysPart, RelaysFront}
-use Rattle.pre_sim.specs.Told.{tells_nothing}
+use Rattle.pre_sim.proofs.Told.{tells_nothing}
 use Rattle.pre_sim.proofs.TellParts.{then_front}
 use Rattle.pre_sim.proofs.EntriesLeft.{LeftLaws}
 use Rattle.pre_sim.proofs.EntriesParts.{relays_front, entries_told}

@@ -2,7 +2,7 @@ use Rattle.std.proofs.Common.{rules, refl, sym, ◌∙◌, ◌≡◌, ◌+◌, �
 use Rattle.std.proofs.lemmas.List.{take_at, append-nil}
 use Rattle.pre_sim.specs.Keeps.{AreReady, AreSettled, TakesIn}
 use Rattle.pre_sim.specs.Parts.{LanesPart, LanesFront, SetsFront, ArrivalsAlias, scenario_of}
-use Rattle.pre_sim.specs.Told.{tells_nothing, tells_then}
+use Rattle.pre_sim.proofs.Told.{tells_nothing, tells_then}
 use Rattle.pre_sim.proofs.TellParts.{then_front, then_early}
 use Rattle.pre_sim.proofs.Readiness.{still_ready}
 use Rattle.pre_sim.proofs.LandParts.{sets_lead, sets_front, lead_on, lead_front, lead_alias, lead_lanes, lead_reached, landed, landed_kept, twice, thrice}

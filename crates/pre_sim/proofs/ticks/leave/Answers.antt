@@ -3,7 +3,7 @@ use Rattle.std.proofs.lemmas.List.{take_at}
 use Rattle.pre_sim.specs.Keeps.{AreSettled}
 use Rattle.pre_sim.specs.Parts.{LanesFront, EntriesFront, scenario_of}
 use Rattle.pre_sim.proofs.TellParts.{then_front, then_part, on_ok, on_ok_of}
-use Rattle.pre_sim.specs.Told.{tells_nothing}
+use Rattle.pre_sim.proofs.Told.{tells_nothing}
 use Rattle.pre_sim.proofs.Readiness.{still_settled}
 use Rattle.pre_sim.proofs.TickParts.{left, left_front, left_kept, entries_front}
 use Rattle.pre_sim.proofs.ticks.leave.Goals as goal

@@ -1,7 +1,7 @@
 use Rattle.std.proofs.Common.{rules, ◌+◌, ◌*◌, length, []}
 use Rattle.pre_sim.specs.Parts.{CarriesFront, CarriesAlias, scenario_of}
 use Rattle.pre_sim.proofs.TellParts.{then_early, then_part, on_ok_weaker}
-use Rattle.pre_sim.specs.Told.{tells_nothing}
+use Rattle.pre_sim.proofs.Told.{tells_nothing}
 use Rattle.pre_sim.proofs.Readiness.{ready_next}
 use Rattle.pre_sim.proofs.TickParts.{carries_on, carries_front}
 use Rattle.pre_sim.proofs.ticks.run_tick.Goals as goal

@@ -5,7 +5,7 @@ use Rattle.pre_history.specs.Scenario.{Scenario}
 use Rattle.pre_history.specs.History.{PlainEvent}
 use Rattle.pre_sim.specs.Telling.{TellsAll}
 use Rattle.pre_sim.specs.Parts.{TellsOne, NoArrival, SetsFront, scenario_of}
-use Rattle.pre_sim.specs.Told.{tells_nothing, tells_then}
+use Rattle.pre_sim.proofs.Told.{tells_nothing, tells_then}
 use Rattle.pre_sim.proofs.Lists.{found_at}
 use Rattle.pre_sim.proofs.LinksKept.{links_set, links_then}
 use Rattle.pre_sim.proofs.NumberTests.{same_number, other_number}

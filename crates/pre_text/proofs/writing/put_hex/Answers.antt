@@ -1,7 +1,7 @@
 use Rattle.std.proofs.Common.{List, ℕ, subst, arith}
 use Rattle.pre_base.specs.Told.{WhereTold}
 use Rattle.pre_base.specs.Sinks.{TakesBut}
-use Rattle.pre_base.specs.Pieces.{goes_on, breaks}
+use Rattle.pre_base.proofs.Pieces.{goes_on, breaks}
 use Rattle.pre_text.specs.Writing.{hex}
 use Rattle.pre_text.proofs.Hexes.{hex-parts}
 use Rattle.pre_text.proofs.writing.put_hex.Goals as goal

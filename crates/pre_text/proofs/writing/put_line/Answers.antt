@@ -6,7 +6,7 @@ use Rattle.pre_text.specs.declared.writing.Word.{Word}
 use Rattle.pre_text.specs.declared.writing.Word.TheVariants.{Number}
 use Rattle.pre_text.specs.Writing.{further, line_of}
 use Rattle.pre_text.specs.Spelled.{spelled}
-use Rattle.pre_base.specs.Pieces.{untouched, goes_on, breaks, ends}
+use Rattle.pre_base.proofs.Pieces.{untouched, goes_on, breaks, ends}
 use Rattle.pre_text.proofs.WordsDropped.{further-drop}
 use Rattle.pre_text.proofs.writing.put_line.Goals as goal
 

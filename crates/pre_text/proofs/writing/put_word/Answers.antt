@@ -1,5 +1,5 @@
 use Rattle.std.proofs.Common.{[], ◌∷◌, ◌++◌}
-use Rattle.pre_base.specs.Pieces.{untouched, goes_on, breaks, ends}
+use Rattle.pre_base.proofs.Pieces.{untouched, goes_on, breaks, ends}
 use Rattle.pre_text.proofs.writing.put_word.Goals as goal
 
 pub returns-in_err-write_all-in-Ends-2-clause-octets :

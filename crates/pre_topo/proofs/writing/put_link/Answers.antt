@@ -1,4 +1,4 @@
-use Rattle.pre_base.specs.Pieces.{untouched, goes_on, breaks, ends}
+use Rattle.pre_base.proofs.Pieces.{untouched, goes_on, breaks, ends}
 use Rattle.pre_topo.specs.Text.{link_head, link_rest, link_text}
 use Rattle.pre_topo.proofs.writing.put_link.Goals as goal
 

@@ -1,7 +1,8 @@
 use Rattle.std.proofs.Common.{◌++◌, rules}
 use Rattle.pre_base.specs.Told.{WhereTold}
 use Rattle.pre_base.specs.Sinks.{TakesAll}
-use Rattle.pre_base.specs.Pieces.{TakesWhole, TakesFront, untouched, goes_on, breaks, ends}
+use Rattle.pre_base.specs.Sinks.{TakesWhole, TakesFront}
+use Rattle.pre_base.proofs.Pieces.{untouched, goes_on, breaks, ends}
 use Rattle.pre_topo.specs.Text.{head_text, nodes_text, links_text}
 use Rattle.pre_topo.specs.NetworkText.{network_text}
 use Rattle.pre_topo.proofs.writing.put_network.Goals as goal

@@ -1,9 +1,9 @@
 use Rattle.std.proofs.Common.{subst}
 use Rattle.pre_base.specs.Told.{WhereTold}
-use Rattle.pre_base.specs.Pieces.{TakesFront}
+use Rattle.pre_base.specs.Sinks.{TakesFront}
 use Rattle.pre_topo.specs.declared.nodes.Node.{Node}
 use Rattle.pre_topo.specs.Text.{node_text}
-use Rattle.pre_topo.proofs.Written.{piece_fails}
+use Rattle.pre_base.proofs.Pieces.{piece_fails}
 use Rattle.pre_topo.proofs.writing.put_nodes.Goals as goal
 
 pub returns-in_err-put_node-clause-octets : goal.returns-in_err-put_node-clause-octets

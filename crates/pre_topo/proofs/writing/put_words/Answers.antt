@@ -1,6 +1,6 @@
 use Rattle.pre_text.specs.declared.writing.Word.TheVariants.{Number}
 use Rattle.pre_text.specs.Spelled.{spelled}
-use Rattle.pre_topo.proofs.Written.{piece_fails}
+use Rattle.pre_base.proofs.Pieces.{piece_fails}
 use Rattle.pre_topo.proofs.writing.put_words.Goals as goal
 
 pub returns-in_err-put_word-clause-octets : goal.returns-in_err-put_word-clause-octets

@@ -3,7 +3,8 @@ use Rattle.std.specs.Fmt.{decimal}
 use Rattle.std.specs.List.{flat_map}
 use Rattle.pre_base.specs.Told.{WhereTold}
 use Rattle.pre_base.specs.Sinks.{TakesAll}
-use Rattle.pre_base.specs.Pieces.{TakesWhole, TakesFront, untouched, goes_on, breaks, ends}
+use Rattle.pre_base.specs.Sinks.{TakesWhole, TakesFront}
+use Rattle.pre_base.proofs.Pieces.{untouched, goes_on, breaks, ends}
 use Rattle.pre_text.specs.Writing.{line_of}
 use Rattle.pre_trace.specs.Text.{line, text}
 use Rattle.pre_trace.specs.Sums.{figures_from, plain_closing}

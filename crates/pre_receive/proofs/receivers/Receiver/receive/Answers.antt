@@ -8,11 +8,12 @@ use Rattle.pre_receive.proofs.Counting.{tells_by, packet_told, fault_told, count
 use Rattle.pre_receive.proofs.Joins.{spelled}
 use Rattle.pre_receive.proofs.Sorts.{sorted_taken, sorted_holds}
 use Rattle.pre_receive.proofs.Faulty.{unspelled, fault_taken, fault_holds}
+use Rattle.pre_receive.proofs.PacketLaws.{packet_laws}
 use Rattle.pre_receive.proofs.receivers.Receiver.receive.Goals as goal
 
 pub returns-in-Err-clause-stands : goal.returns-in-Err-clause-stands
 returns-in-Err-clause-stands c = λ A s.
-    let laws = c.packet_laws.ensures in
+    let laws = packet_laws in
     let old = c.args.self.now in
     let a = c.args.arrived.now in
     let e = c.in-Err.fault in
@@ -29,12 +30,12 @@ returns-in-Err-clause-taken c = λ A s.
     let a = c.args.arrived.now in
     let e = c.in-Err.fault in
     let only : (d : MFault) → IsFirstFault d a → d ≡ e = λ d first. cc (c.in-Err.ensures.fault_due d first) in
-    let taken = fault_taken c.packet_laws.ensures A a e c.in-Err.ensures.fault only c.in-Err.ensures.spelled_due in
+    let taken = fault_taken packet_laws A a e c.in-Err.ensures.fault only c.in-Err.ensures.spelled_due in
     rw c.cause_of.ensures taken
 
 pub returns-in-Ok-clause-stands : goal.returns-in-Ok-clause-stands
 returns-in-Ok-clause-stands c = λ A s.
-    let laws = c.packet_laws.ensures in
+    let laws = packet_laws in
     let old = c.args.self.now in
     let new = c.sorted-outcome.new.self in
     let o = c.sorted-outcome.result in
@@ -59,4 +60,4 @@ returns-in-Ok-clause-taken c = λ A s.
     let new = c.sorted-outcome.new.self in
     let o = c.sorted-outcome.result in
     let sound : (d : MFault) → ¬ IsFirstFault d a = λ d first. cc (c.in-Ok.ensures.fault_due d first) in
-    sorted_taken c.packet_laws.ensures A a (plain c.in-Ok.packet) c.in-Ok.ensures.spelled sound c.in-Ok.packet.kind refl c.args.self.now new o s.holds c.sorted-outcome.ensures.sorted
+    sorted_taken packet_laws A a (plain c.in-Ok.packet) c.in-Ok.ensures.spelled sound c.in-Ok.packet.kind refl c.args.self.now new o s.holds c.sorted-outcome.ensures.sorted

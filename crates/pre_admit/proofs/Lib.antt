@@ -1,0 +1,6 @@
+mod Lists
+mod Locality
+mod Certificates
+mod Joins
+mod Answers
+mod Admitting
