@@ -291,10 +291,11 @@ def stream_bursts(found):
     return [(7, place, f"stream {place}") for place, table in enumerate(found.get("stream", [])) if table["burst"] < table["max"] + 20]
 
 
-def read_streams(net, text):
+def read_streams(net, text, word="streams", most_flows=256):
+    """The rows of a stream file; the word names the kind of file in the texts of its faults."""
     found = document(text)
     if found is None:
-        raise Refused(4, "form streams 0 1")
+        raise Refused(4, f"form {word} 0 1")
     tests = (
         stream_fields,
         stream_names,
@@ -306,9 +307,9 @@ def read_streams(net, text):
     for rules in tests:
         fault = first(rules(found))
         if fault:
-            raise Refused(5, f"rules streams {fault[2]} {fault[0]}")
-    if max(len(found.get("stream", [])), len(found.get("flow", []))) > 256:
-        raise Refused(5, "rules streams top 8")
+            raise Refused(5, f"rules {word} {fault[2]} {fault[0]}")
+    if len(found.get("stream", [])) > 256 or len(found.get("flow", [])) > most_flows:
+        raise Refused(5, f"rules {word} top 8")
     return [Row(net, table) for _, _, table in rows_of(found)]
 
 

@@ -1,5 +1,6 @@
 -- Rows admitted one after the other, and one more.
-use Rattle.std.proofs.Common.{◌≡◌, ℕ, zero, suc, ◌+◌, ◌≤◌, false, arith, length, get_or, take, drop, List, [], ◌∷◌, ◌++◌, Option, Some, None, Result, Ok, Err, is_none, IsSome, IfOk, inl, inr, refl, sym, ◌∙◌, ap, subst}
+use Rattle.std.proofs.Common.{◌≡◌, ℕ, zero, suc, ◌+◌, ◌≤◌, false, arith, length, get_or, take, drop, List, [], ◌∷◌}
+use Rattle.std.proofs.Common.{◌++◌, Option, Some, None, Result, Ok, Err, is_none, IsSome, IfOk, inl, inr, refl, sym, ◌∙◌, ap, subst}
 use Rattle.std.specs.Prelude.{All}
 use Rattle.std.specs.List.{insert}
 use Rattle.std.proofs.lemmas.Bool.{cases_lt}
@@ -34,7 +35,7 @@ whole [] (suc n) = refl
 whole (x ∷ xs) (suc n) = ap (λ l. x ∷ l) (whole xs n)
 
 -- the first flow moves on by one
-flow_moves : (held : List Row) (row : Row) → is_none row.curve ≡ false → first_flow (with_stream held row) ≡ suc (first_flow held)
+pub flow_moves : (held : List Row) (row : Row) → is_none row.curve ≡ false → first_flow (with_stream held row) ≡ suc (first_flow held)
 flow_moves held row stream =
     let n = first_flow held in
     let within = first_within (λ (r : Row). is_none r.curve) held in
@@ -61,7 +62,7 @@ put_behind held row more stream =
 put_nothing : (held : List Row) → with_streams held [] ≡ held
 put_nothing held = whole held (first_flow held)
 
-no_flow : (o : Option Curve) → IsSome o → is_none o ≡ false
+pub no_flow : (o : Option Curve) → IsSome o → is_none o ≡ false
 no_flow (Some c) some = refl
 no_flow None some = absurd (cc)
 

@@ -1,6 +1,6 @@
-mod Lists
+pub mod Lists
 mod Locality
 mod Certificates
 mod Joins
 mod Answers
-mod Admitting
+pub mod Admitting

@@ -1,6 +1,7 @@
 -- Each number of a good certificate is at least the least solution over the numbers before it; so, along the order of its
 -- ranks, at least the settled numbers.
-use Rattle.std.proofs.Common.{◌≡◌, ℕ, zero, suc, ◌==◌, ◌∙◌, ◌+◌, ◌-◌, ◌*◌, ◌<◌, ◌≤◌, max, min, Bool, true, false, List, Option, Some, None, sym, ap, subst, arith, refl, if◌then◌else◌, inl, inr, length, get_or}
+use Rattle.std.proofs.Common.{◌≡◌, ℕ, zero, suc, ◌==◌, ◌∙◌, ◌+◌, ◌-◌, ◌*◌, ◌<◌, ◌≤◌, max, min, Bool, true}
+use Rattle.std.proofs.Common.{false, List, Option, Some, None, sym, ap, subst, arith, refl, if◌then◌else◌, inl, inr, length, get_or}
 use Rattle.std.specs.Prelude.{slice_get, Contains, IsSome}
 use Rattle.std.specs.Option.{option_map, option_map_or}
 use Rattle.std.proofs.Math.Nat.{mul-le-mul_left, min-le_left, min-le_right, le-min}

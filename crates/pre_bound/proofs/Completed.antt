@@ -1,5 +1,6 @@
 -- A good certificate leaves no port that passes the limit, and no ring that is too small.
-use Rattle.std.proofs.Common.{◌≡◌, ℕ, zero, suc, ◌+◌, ◌*◌, ◌/◌, ◌%◌, ◌<◌, ◌≤◌, Bool, true, false, List, [], ◌∷◌, ◌++◌, Some, refl, sym, ◌∙◌, ap, subst, arith, length, get_or, map, take}
+use Rattle.std.proofs.Common.{◌≡◌, ℕ, zero, suc, ◌+◌, ◌*◌, ◌/◌, ◌%◌, ◌<◌, ◌≤◌, Bool, true, false, List, []}
+use Rattle.std.proofs.Common.{◌∷◌, ◌++◌, Some, refl, sym, ◌∙◌, ap, subst, arith, length, get_or, map, take}
 use Rattle.std.specs.Prelude.{slice_get, sum_by, Contains, All, IsSome, nat_lt}
 use Rattle.std.specs.List.{list_any, enumerate_from, flat_map, range_with_len}
 use Rattle.std.proofs.lemmas.Bool.{or_from, false_from_ne_true, and_parts, ltb-true, true≢false}

@@ -1,5 +1,7 @@
 -- Numbers that are at most others at each arc, port, hop and stream are so at each place of their certificates.
-use Rattle.std.proofs.Common.{◌≡◌, ℕ, zero, suc, ◌+◌, ◌*◌, ◌/◌, ◌%◌, ◌<◌, ◌≤◌, Bool, true, false, List, [], ◌∷◌, Some, None, is_some, unwrap_or, if◌then◌else◌, refl, sym, ap, subst, arith, inl, inr, length, get_or, map}
+use Rattle.std.proofs.Common.{◌≡◌, ℕ, zero, suc, ◌+◌, ◌*◌, ◌/◌, ◌%◌, ◌<◌, ◌≤◌, Bool, true, false, List, []}
+use Rattle.std.proofs.Common.{◌∷◌, Some, None, is_some, unwrap_or, if◌then◌else◌, refl, sym, ap, subst, arith, inl, inr, length}
+use Rattle.std.proofs.Common.{get_or, map}
 use Rattle.std.specs.Prelude.{slice_get, Contains, All, IsSome, filter}
 use Rattle.std.specs.List.{enumerate_from, flat_map, range_with_len}
 use Rattle.std.proofs.lemmas.Bool.{cases_Bool}

@@ -1,5 +1,6 @@
 -- Which streams use an arc, with which priorities, and what the arc costs them.
-use Rattle.std.specs.Prelude.{◌≡◌, ℕ, ◌+◌, ◌*◌, ◌==◌, nat_lt, nat_le, ◌&&◌, Bool, true, false, not, List, Some, slice_get, slice_index, sum_by, filter, is_some, if◌then◌else◌, max, min, fold, Contains, IsSome}
+use Rattle.std.specs.Prelude.{◌≡◌, ℕ, ◌+◌, ◌*◌, ◌==◌, nat_lt, nat_le, ◌&&◌, Bool, true, false, not, List, Some, slice_get}
+use Rattle.std.specs.Prelude.{slice_index, sum_by, filter, is_some, if◌then◌else◌, max, min, fold, Contains, IsSome}
 use Rattle.std.specs.Option.{option_map, option_map_or}
 use Rattle.std.specs.List.{list_any, position_or_len}
 use Rattle.pre_base.specs.declared.limits.TheConstants.{OVERHEAD}

@@ -1,5 +1,7 @@
 -- When the first one of those that wait is due.
-use Rattle.std.proofs.Common.{◌≡◌, ℕ, zero, suc, ◌+◌, ◌<◌, ◌≤◌, ◌⊎◌, inl, inr, Bool, true, false, cond, eqb, List, [], ◌∷◌, ◌++◌, length, map, take, Option, Some, None, refl, sym, ap, subst, ◌∙◌, arith, All, AllPairs, get_or, append-nil}
+use Rattle.std.proofs.Common.{◌≡◌, ℕ, zero, suc, ◌+◌, ◌<◌, ◌≤◌, ◌⊎◌, inl, inr, Bool, true, false, cond, eqb, List, []}
+use Rattle.std.proofs.Common.{◌∷◌, ◌++◌, length, map, take, Option, Some, None, refl, sym, ap, subst, ◌∙◌, arith, All, AllPairs}
+use Rattle.std.proofs.Common.{get_or, append-nil}
 use Rattle.std.specs.Prelude.{slice_get, min}
 use Rattle.std.specs.List.{Contains, Any, cons_option}
 use Rattle.std.specs.Option.{option_to_list}

@@ -1,5 +1,7 @@
 -- What a call changes of the calls for which a relay stands.
-use Rattle.std.proofs.Common.{length-drop, length-append, ◌≡◌, ℕ, suc, ◌+◌, ◌*◌, ◌/◌, ◌<◌, ◌≤◌, ◌⊎◌, inl, inr, true, false, cond, leb, ltb, eqb, List, [], ◌∷◌, ◌++◌, length, map, set, Option, Some, None, refl, sym, ap, ap₂, subst, ◌∙◌, arith, All, AllPairs, drop, get_or, append-nil, length-set}
+use Rattle.std.proofs.Common.{length-drop, length-append, ◌≡◌, ℕ, suc, ◌+◌, ◌*◌, ◌/◌, ◌<◌, ◌≤◌, ◌⊎◌, inl, inr, true, false, cond, leb, ltb, eqb}
+use Rattle.std.proofs.Common.{List, [], ◌∷◌, ◌++◌, length, map, set, Option, Some, None, refl, sym, ap, ap₂, subst, ◌∙◌, arith, All, AllPairs, drop, get_or}
+use Rattle.std.proofs.Common.{append-nil, length-set}
 use Rattle.std.specs.Prelude.{slice_get, position, is_some}
 use Rattle.std.specs.List.{flat_map}
 use Rattle.std.specs.Option.{option_map, option_map_or, option_and_then}

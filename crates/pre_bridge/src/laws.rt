@@ -1,4 +1,5 @@
-ghost use Rattle.std.specs.Prelude.{◌≡◌, ◌<◌, ◌≤◌, ◌+◌, ◌*◌, ◌/◌, ◌↔◌, ℕ, List, [], ◌∷◌, ◌++◌, length, filter, replicate, not, slice_get, All, None, Some};
+ghost use Rattle.std.specs.Prelude.{◌≡◌, ◌<◌, ◌≤◌, ◌+◌, ◌*◌, ◌/◌, ◌↔◌, ℕ, List, [], ◌∷◌, ◌++◌};
+ghost use Rattle.std.specs.Prelude.{length, filter, replicate, not, slice_get, All, None, Some};
 ghost use Rattle.pre_base.specs.declared.numbers.NodeId.{NodeId};
 ghost use Rattle.pre_base.specs.declared.numbers.ArcId.{ArcId};
 ghost use Rattle.pre_topo.specs.declared.network.Network.{Network};

@@ -13,11 +13,8 @@ use Rattle.pre_certify.specs.declared.unfit.Unfit.{Unfit}
 use Rattle.pre_certify.specs.declared.unfit.Unfit.TheVariants.{Overload, Cycle, Large, Ring, Memory}
 
 abbrev pub names_cycle : Unfit → Bool
-names_cycle (Overload arc) = false
 names_cycle (Cycle arcs) = true
-names_cycle (Large arc prio) = false
-names_cycle (Ring arc prio need) = false
-names_cycle Memory = false
+names_cycle _ = false
 
 -- the same refusal, but for the choice of a cycle
 abbrev pub SameRefusal : Unfit → Unfit → Type 0

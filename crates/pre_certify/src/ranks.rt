@@ -1,4 +1,5 @@
-ghost use Rattle.std.specs.Prelude.{◌≡◌, ℕ, ◌+◌, ◌*◌, ◌<◌, ◌≤◌, ◌↔◌, length, IfSome, IfNone, IfOk, IfErr, OnOk, Some, None, true, false, slice_get, slice_index, IsTrue, replicate};
+ghost use Rattle.std.specs.Prelude.{◌≡◌, ℕ, ◌+◌, ◌*◌, ◌<◌, ◌≤◌, ◌↔◌, length, IfSome, IfNone, IfOk, IfErr, OnOk};
+ghost use Rattle.std.specs.Prelude.{Some, None, true, false, slice_get, slice_index, IsTrue, replicate};
 ghost use Rattle.pre_base.specs.declared.numbers.ArcId.{ArcId};
 ghost use Rattle.pre_bound.specs.Uses.{Follows};
 ghost use Rattle.pre_certify.specs.Peels.{IsOpen, HasOpenBefore, NoneBefore, IsNextRank, IsRound, Peeled, open_count, IsClosed};

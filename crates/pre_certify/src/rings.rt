@@ -46,15 +46,7 @@ pub(crate) fn settled_row(
 {
     match port_row(net, rows, delays, arc, prio) {
         Some(row) => row,
-        None => PortRow {
-            arc,
-            prio: Prio(prio),
-            block: 0,
-            work: 0,
-            rate: 0,
-            delay: 0,
-            size: 0,
-        },
+        None => unreachable!(),
     }
 }
 

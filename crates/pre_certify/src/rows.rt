@@ -77,7 +77,7 @@ fn settled_burst(net: &Network, delays: &[u64], row: &Row, hop: usize) -> u64
 {
     match burst_at(net, delays, row, hop) {
         Some(burst) => burst,
-        None => 0,
+        None => unreachable!(),
     }
 }
 
@@ -89,7 +89,7 @@ fn settled_bound(net: &Network, delays: &[u64], row: &Row) -> u64
 {
     match ticks_before(net, delays, row, row.arcs.len()) {
         Some(ticks) => ticks,
-        None => 0,
+        None => unreachable!(),
     }
 }
 

@@ -1,5 +1,6 @@
 -- The rows that are due, and what is looked up in a certificate's rows: the numbers that it says.
-use Rattle.std.proofs.Common.{◌≡◌, ℕ, ◌+◌, ◌*◌, ◌/◌, ◌%◌, ◌<◌, Bool, true, false, List, Some, None, refl, sym, ◌∙◌, ap, subst, arith, length, map, unwrap_or, if◌then◌else◌, zero-add, eq-eqb}
+use Rattle.std.proofs.Common.{◌≡◌, ℕ, ◌+◌, ◌*◌, ◌/◌, ◌%◌, ◌<◌, Bool, true, false, List, Some, None, refl, sym}
+use Rattle.std.proofs.Common.{◌∙◌, ap, subst, arith, length, map, unwrap_or, if◌then◌else◌, zero-add, eq-eqb}
 use Rattle.std.specs.Prelude.{slice_get, ◌==◌, ◌&&◌}
 use Rattle.std.specs.Option.{option_map}
 use Rattle.std.specs.List.{enumerate_from, range_with_len}

@@ -1,10 +1,11 @@
 -- A line that is read says a row that is due, with no number above the limit.
-use Rattle.std.proofs.Common.{◌≡◌, ℕ, ◌≤◌, Bool, true, false, List, [], ◌∷◌, Option, Some, None, Result, Ok, Err, refl, sym, ◌∙◌, ap, subst, arith, is_some, if◌then◌else◌, unwrap_or, eq-eqb}
+use Rattle.std.proofs.Common.{◌≡◌, ℕ, ◌≤◌, Bool, true, false, List, [], ◌∷◌, Option, Some, None, Result, Ok, Err, refl, sym}
+use Rattle.std.proofs.Common.{◌∙◌, ap, subst, arith, is_some, if◌then◌else◌, unwrap_or, eq-eqb}
 use Rattle.std.specs.Prelude.{slice_get, ◌==◌, ◌&&◌, not, codes}
 use Rattle.std.specs.Str.{bytes_eq}
 use Rattle.std.proofs.lemmas.Bool.{eqb-true, leb-true, and_parts, true≢false}
 use Rattle.std.proofs.lemmas.List.Elements.{All-push, All-nil}
-use Rattle.pre_text.specs.Words.{number_of}
+use Rattle.pre_text.specs.Words.{number_of, is_comment}
 use Rattle.pre_text.specs.Lines.{words_of}
 use Rattle.pre_base.specs.declared.numbers.StreamId.{StreamId}
 use Rattle.pre_topo.specs.declared.network.Network.{Network}
@@ -19,9 +20,11 @@ use Rattle.pre_check.specs.declared.due.Due.TheVariants as due
 use Rattle.pre_check.specs.declared.saying.Said.{Said}
 use Rattle.pre_check.specs.declared.saying.Said.TheVariants as said
 use Rattle.pre_check.specs.Due.{is_arc, is_stream_named, is_first, is_end, arc_due, port_due, hop_due, bound_due}
-use Rattle.pre_check.specs.Saying.{arc_of, arc_said, bound_said, end_said, first_said, given, hop_said, is_small, kept, large_rule, no_words, number_rule, old_arc, old_arc_of, old_largest, one, port_of, port_said, ranked_arc, row_rule, said_by, six, split, three, two, unranked_arc, version_of, word_rule}
+use Rattle.pre_check.specs.Saying.{arc_of, arc_said, bound_said, end_said, first_said, given, hop_said, is_small, kept, large_rule, no_words, number_rule, old_arc}
+use Rattle.pre_check.specs.Saying.{old_arc_of, old_largest, one, port_of, port_said, ranked_arc, row_rule, said_by, six, split, three, two, unranked_arc}
+use Rattle.pre_check.specs.Saying.{version_of, word_rule}
 use Rattle.pre_check.specs.Seen.{Seen, nothing_seen, with_said}
-use Rattle.pre_check.specs.Reading.{AreSmall, after_line, after_words, by_due, is_comment, told}
+use Rattle.pre_check.specs.Reading.{AreSmall, after_line, after_words, by_due, told}
 
 -- the line that a row is due as
 abbrev pub due_of : Said → Due

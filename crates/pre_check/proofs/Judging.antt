@@ -1,5 +1,6 @@
 -- The verdict on a certificate: accepted exactly where it is good, else the first clause that fails with its first line.
-use Rattle.std.proofs.Common.{◌≡◌, ℕ, ◌+◌, ◌-◌, ◌/◌, ◌%◌, ◌<◌, ◌≤◌, List, [], ◌∷◌, Option, Some, None, refl, sym, ◌∙◌, ap, subst, arith, inl, inr, length, get_or}
+use Rattle.std.proofs.Common.{◌≡◌, ℕ, ◌+◌, ◌-◌, ◌/◌, ◌%◌, ◌<◌, ◌≤◌, List, [], ◌∷◌, Option, Some, None}
+use Rattle.std.proofs.Common.{refl, sym, ◌∙◌, ap, subst, arith, inl, inr, length, get_or}
 use Rattle.std.proofs.lemmas.Bool.{cases_lt}
 use Rattle.pre_base.specs.declared.numbers.StreamId.{StreamId}
 use Rattle.pre_topo.specs.declared.network.Network.{Network}
@@ -24,7 +25,9 @@ use Rattle.pre_check.specs.Breaches.{breaches, first_from, port_lines, hop_lines
 use Rattle.pre_check.proofs.Finding.{FirstAt, first_at}
 use Rattle.pre_check.proofs.Sizes.{few_arcs, few_ports, few_hops, few_streams, ports_begin, hops_begin, bounds_begin}
 use Rattle.pre_check.proofs.Agreeing.{port_due, hop_due, stream_due}
-use Rattle.pre_check.proofs.Testing.{load_sound, load_complete, largest_sound, largest_complete, block_sound, block_complete, work_sound, work_complete, delay_sound, delay_complete, size_sound, size_complete, ring_sound, ring_complete, first_sound, first_complete, bound_sound, bound_complete}
+use Rattle.pre_check.proofs.Testing.{load_sound, load_complete, largest_sound, largest_complete, block_sound, block_complete, work_sound, work_complete}
+use Rattle.pre_check.proofs.Testing.{delay_sound, delay_complete, size_sound, size_complete, ring_sound, ring_complete, first_sound, first_complete}
+use Rattle.pre_check.proofs.Testing.{bound_sound, bound_complete}
 use Rattle.pre_check.proofs.Stepping.{rank_sound, rank_complete, growth_sound, growth_complete}
 use Rattle.pre_check.proofs.Holding.{HoldAll, good_from, order_from, all_from_good}
 

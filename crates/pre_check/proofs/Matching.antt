@@ -1,5 +1,6 @@
 -- What was read so far has the keys of the lines that were due so far.
-use Rattle.std.proofs.Common.{◌≡◌, ℕ, zero, suc, ◌+◌, ◌/◌, ◌%◌, Bool, true, false, List, [], ◌∷◌, ◌++◌, Option, Some, None, Result, Ok, Err, refl, sym, ◌∙◌, ap, subst, arith, inl, inr, length, map, take, if◌then◌else◌}
+use Rattle.std.proofs.Common.{◌≡◌, ℕ, zero, suc, ◌+◌, ◌/◌, ◌%◌, Bool, true, false, List, [], ◌∷◌, ◌++◌, Option, Some}
+use Rattle.std.proofs.Common.{None, Result, Ok, Err, refl, sym, ◌∙◌, ap, subst, arith, inl, inr, length, map, take, if◌then◌else◌}
 use Rattle.std.specs.Prelude.{slice_get, ◌==◌, not, IfOk}
 use Rattle.std.specs.List.{flat_map}
 use Rattle.std.proofs.lemmas.Bool.{eqb-true}
@@ -24,7 +25,8 @@ use Rattle.pre_check.specs.Lines.{HasRows}
 use Rattle.pre_check.specs.Due.{due_lines, due_arcs, due_ports, due_hops, due_bounds, due_port, due_hop}
 use Rattle.pre_check.specs.Saying.{said_by, end_rule}
 use Rattle.pre_check.specs.Seen.{Seen, Rows, rows_in, nothing_seen, with_said}
-use Rattle.pre_check.specs.Reading.{ReadsAs, after_line, after_lines, after_words, by_due, certificate_of, ended, is_comment, then_after, told, until_end}
+use Rattle.pre_text.specs.Words.{is_comment}
+use Rattle.pre_check.specs.Reading.{ReadsAs, after_line, after_lines, after_words, by_due, certificate_of, ended, then_after, told, until_end}
 use Rattle.pre_check.specs.Said.{values_in}
 use Rattle.pre_check.proofs.Lists.{from_append, from_map}
 use Rattle.pre_check.proofs.Fitting.{SaidFits, HasVersion, due_of, said_by_fits}

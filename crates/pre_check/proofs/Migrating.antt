@@ -1,5 +1,7 @@
 -- A text of version 1 is read as a good certificate exactly where the older frames fit.
-use Rattle.std.proofs.Common.{◌≡◌, ℕ, zero, suc, ◌+◌, ◌*◌, ◌<◌, ◌≤◌, Bool, true, false, cond, List, [], ◌∷◌, ◌++◌, Option, Some, None, Result, Ok, Err, refl, sym, ◌∙◌, ap, subst, arith, inl, inr, length, map, if◌then◌else◌}
+use Rattle.std.proofs.Common.{◌≡◌, ℕ, zero, suc, ◌+◌, ◌*◌, ◌<◌, ◌≤◌, Bool, true, false, cond, List, [], ◌∷◌}
+use Rattle.std.proofs.Common.{◌++◌, Option, Some, None, Result, Ok, Err, refl, sym, ◌∙◌, ap, subst, arith, inl, inr, length, map}
+use Rattle.std.proofs.Common.{if◌then◌else◌}
 use Rattle.std.specs.Prelude.{slice_get, filter, codes, not, min}
 use Rattle.std.specs.Option.{option_map_or}
 use Rattle.std.specs.List.{enumerate_from}
@@ -25,7 +27,8 @@ use Rattle.pre_check.specs.declared.saying.Said.TheVariants as said
 use Rattle.pre_check.specs.Due.{due_lines}
 use Rattle.pre_check.specs.Saying.{old_largest, said_by}
 use Rattle.pre_check.specs.Seen.{Seen, Rows, rows_in, nothing_seen, with_said}
-use Rattle.pre_check.specs.Reading.{after_line, after_lines, after_words, by_due, certificate_of, is_comment, told}
+use Rattle.pre_text.specs.Words.{is_comment}
+use Rattle.pre_check.specs.Reading.{after_line, after_lines, after_words, by_due, certificate_of, told}
 use Rattle.pre_check.specs.Migration.{is_kept, IsVersionOne, old_preemptable, OldBlock, Migrates}
 use Rattle.pre_check.proofs.Lists.{at_map, from_append}
 use Rattle.pre_check.proofs.Agreeing.{has_arc_due}

@@ -42,52 +42,28 @@ is_stream_named streams stream name = option_map_or (λ s. s == stream) (row_nam
 
 abbrev pub is_first : Due → Bool
 is_first due.First = true
-is_first (due.Arc arc) = false
-is_first (due.Port arc prio) = false
-is_first (due.Hop stream hop) = false
-is_first (due.Bound stream) = false
-is_first due.End = false
+is_first _ = false
 
 abbrev pub is_end : Due → Bool
-is_end due.First = false
-is_end (due.Arc arc) = false
-is_end (due.Port arc prio) = false
-is_end (due.Hop stream hop) = false
-is_end (due.Bound stream) = false
 is_end due.End = true
+is_end _ = false
 
 -- the arc that is due, where the name is its
 abbrev pub arc_due : Network → Due → List ℕ → Option ℕ
-arc_due net due.First name = None
 arc_due net (due.Arc arc) name = if is_arc net arc.0 name then Some arc.0 else None
-arc_due net (due.Port arc prio) name = None
-arc_due net (due.Hop stream hop) name = None
-arc_due net (due.Bound stream) name = None
-arc_due net due.End name = None
+arc_due net _ name = None
 
 -- the port that is due, where the name and the priority are its
 abbrev pub port_due : Network → Due → List ℕ → ℕ → Option (ℕ × ℕ)
-port_due net due.First name n = None
-port_due net (due.Arc arc) name n = None
 port_due net (due.Port arc prio) name n = if is_arc net arc.0 name && prio == n then Some (arc.0, prio) else None
-port_due net (due.Hop stream hop) name n = None
-port_due net (due.Bound stream) name n = None
-port_due net due.End name n = None
+port_due net _ name n = None
 
 -- the stream whose hop is due, where the name and the hop are those
 abbrev pub hop_due : Streams → Due → List ℕ → ℕ → Option ℕ
-hop_due streams due.First name n = None
-hop_due streams (due.Arc arc) name n = None
-hop_due streams (due.Port arc prio) name n = None
 hop_due streams (due.Hop stream hop) name n = if is_stream_named streams stream.0 name && hop == n then Some stream.0 else None
-hop_due streams (due.Bound stream) name n = None
-hop_due streams due.End name n = None
+hop_due streams _ name n = None
 
 -- the stream whose bound is due, where the name is its
 abbrev pub bound_due : Streams → Due → List ℕ → Option ℕ
-bound_due streams due.First name = None
-bound_due streams (due.Arc arc) name = None
-bound_due streams (due.Port arc prio) name = None
-bound_due streams (due.Hop stream hop) name = None
 bound_due streams (due.Bound stream) name = if is_stream_named streams stream.0 name then Some stream.0 else None
-bound_due streams due.End name = None
+bound_due streams _ name = None

@@ -1,5 +1,6 @@
 -- Texts of version 1, and the clauses that their certificates were made by.
-use Rattle.std.specs.Prelude.{◌≡◌, ℕ, ◌+◌, ◌*◌, ◌<◌, ◌≤◌, ◌↔◌, Bool, false, not, List, [], ◌∷◌, length, slice_get, codes, filter, map, Some, Ok, if◌then◌else◌, IsTrue, Contains}
+use Rattle.std.specs.Prelude.{◌≡◌, ℕ, ◌+◌, ◌*◌, ◌<◌, ◌≤◌, ◌↔◌, Bool, false, not, List, [], ◌∷◌, length}
+use Rattle.std.specs.Prelude.{slice_get, codes, filter, map, Some, Ok, if◌then◌else◌, IsTrue, Contains}
 use Rattle.std.specs.Option.{option_map_or}
 use Rattle.pre_base.specs.declared.limits.TheConstants.{OVERHEAD}
 use Rattle.pre_text.specs.Lines.{lines_of, words_of}
@@ -15,7 +16,8 @@ use Rattle.pre_bound.specs.Good.{AtPorts, AtStreams, AreInOrder}
 use Rattle.pre_bound.specs.Settled.{PriosBelow}
 use Rattle.pre_bound.specs.Listed.{Says, GoodCertificate}
 use Rattle.pre_check.specs.Seen.{rows_in}
-use Rattle.pre_check.specs.Reading.{certificate_of, is_comment}
+use Rattle.pre_text.specs.Words.{is_comment}
+use Rattle.pre_check.specs.Reading.{certificate_of}
 
 -- a line that isn't skipped
 abbrev pub is_kept : List (List ℕ) → Bool

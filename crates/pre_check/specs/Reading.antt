@@ -1,5 +1,6 @@
 -- The certificate that a text spells, or its first fault.
 use Rattle.std.specs.Prelude.{◌≡◌, ℕ, ◌+◌, ◌==◌, Bool, false, List, [], ◌∷◌, length, slice_get, Option, Some, None, Result, Ok, Err, if◌then◌else◌, ⊤}
+use Rattle.pre_text.specs.Words.{is_comment}
 use Rattle.pre_text.specs.Lines.{lines_of, numbered_lines, words_of}
 use Rattle.pre_topo.specs.declared.network.Network.{Network}
 use Rattle.pre_streams.specs.declared.rows.Streams.{Streams}
@@ -12,11 +13,6 @@ use Rattle.pre_check.specs.declared.saying.Said.{Said}
 use Rattle.pre_check.specs.Due.{due_lines}
 use Rattle.pre_check.specs.Saying.{said_by, after_rule, end_rule}
 use Rattle.pre_check.specs.Seen.{Rows, rows_in, Seen, nothing_seen, with_said}
-
--- a comment begins with #
-abbrev pub is_comment : List ℕ → Bool
-is_comment [] = false
-is_comment (c ∷ cs) = c == 35
 
 -- a line's rule with the line
 abbrev pub told : ℕ → Seen → Result Said ℕ → Result Seen (ℕ × ℕ)

@@ -57,17 +57,12 @@ one (a ∷ []) = Some a
 one (a ∷ b ∷ rest) = None
 
 abbrev pub two : List (List ℕ) → Option (List ℕ × List ℕ)
-two [] = None
-two (a ∷ []) = None
 two (a ∷ b ∷ []) = Some (a, b)
-two (a ∷ b ∷ c ∷ rest) = None
+two _ = None
 
 abbrev pub three : List (List ℕ) → Option (List ℕ × List ℕ × List ℕ)
-three [] = None
-three (a ∷ []) = None
-three (a ∷ b ∷ []) = None
 three (a ∷ b ∷ c ∷ []) = Some (a, b, c)
-three (a ∷ b ∷ c ∷ d ∷ rest) = None
+three _ = None
 
 -- a name, and the words behind it
 abbrev pub split : List (List ℕ) → Option (List ℕ × List (List ℕ))
@@ -75,14 +70,8 @@ split [] = None
 split (a ∷ rest) = Some (a, rest)
 
 abbrev pub six : List (List ℕ) → Option (List ℕ × List ℕ × List ℕ × List ℕ × List ℕ × List ℕ)
-six [] = None
-six (a ∷ []) = None
-six (a ∷ b ∷ []) = None
-six (a ∷ b ∷ c ∷ []) = None
-six (a ∷ b ∷ c ∷ d ∷ []) = None
-six (a ∷ b ∷ c ∷ d ∷ e ∷ []) = None
 six (a ∷ b ∷ c ∷ d ∷ e ∷ f ∷ []) = Some (a, b, c, d, e, f)
-six (a ∷ b ∷ c ∷ d ∷ e ∷ f ∷ g ∷ rest) = None
+six _ = None
 
 abbrev pub version_of : List ℕ → Option ℕ
 version_of word = if bytes_eq word (codes "1") then Some 1 else if bytes_eq word (codes "2") then Some 2 else if bytes_eq word (codes "3") then Some 3 else None

@@ -1,5 +1,6 @@
 -- Whether a clause holds at a row of a certificate.
-use Rattle.std.specs.Prelude.{ℕ, ◌+◌, ◌-◌, ◌*◌, ◌/◌, ◌==◌, ◌&&◌, ◌||◌, nat_lt, nat_le, not, Bool, true, List, Option, None, slice_get, option_and_then, sum_by, filter, if◌then◌else◌}
+use Rattle.std.specs.Prelude.{ℕ, ◌+◌, ◌-◌, ◌*◌, ◌/◌, ◌==◌, ◌&&◌, ◌||◌, nat_lt, nat_le, not, Bool, true, List, Option}
+use Rattle.std.specs.Prelude.{None, slice_get, option_and_then, sum_by, filter, if◌then◌else◌}
 use Rattle.std.specs.Option.{option_map, option_map_or}
 use Rattle.std.specs.List.{list_all, enumerate_from}
 use Rattle.pre_base.specs.declared.limits.TheConstants.{OVERHEAD}

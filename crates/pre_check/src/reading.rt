@@ -4,14 +4,14 @@ ghost use Rattle.pre_check.specs.Lines.{HasRows};
 ghost use Rattle.pre_check.specs.Due.{due_lines};
 ghost use Rattle.pre_text.specs.Lines.{lines_of, numbered_lines};
 ghost use Rattle.pre_check.specs.Seen.{seen, nothing_seen};
-ghost use Rattle.pre_check.specs.Reading.{ReadsAs, LineReadsAs, after_line, after_lines, ended, is_comment, certificate_of, told};
+ghost use Rattle.pre_check.specs.Reading.{ReadsAs, LineReadsAs, after_line, after_lines, ended, certificate_of, told};
 
 use crate::drafts::Draft;
 use crate::due::{Due, due_lines};
 use crate::saying::{AFTER_END, Said, said_by};
 use pre_bound::Certificate;
 use pre_streams::Streams;
-use pre_text::{Line, LineWords, Lines};
+use pre_text::{Line, LineWords, Lines, starts_comment};
 use pre_topo::Network;
 use std::alloc::{AllocError, Global};
 
@@ -105,15 +105,6 @@ fn read_line(
     };
     let said = said_by(net, streams, draft.version, row, first, &mut words);
     take_up(draft, line.number, said)
-}
-
-fn starts_comment(word: &[u8]) -> bool
-    ensures { result ≡ is_comment word.now }
-{
-    match word {
-        [b'#', ..] => true,
-        _ => false,
-    }
 }
 
 /// Takes up what the line says, or answers its fault.

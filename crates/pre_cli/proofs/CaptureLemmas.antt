@@ -9,7 +9,7 @@ use Rattle.pre_cli.specs.declared.statuses.Status.{Status}
 use Rattle.pre_cli.specs.declared.statuses.Status.TheVariants as status
 use Rattle.pre_cli.specs.Answers.{Outside}
 use Rattle.pre_cli.specs.Capturing.{arc_in, watched_in, sent_in, Capture, capturing, scenario_in, watched_arc, CapturingCause, CaptureEnds, CapturingLeaves}
-use Rattle.pre_cli.specs.Certifying.{OfFiles, IsNetIn}
+use Rattle.pre_cli.specs.Files.{OfFiles, IsNetIn}
 use Rattle.pre_cli.specs.Judging.{network_in, streams_in}
 use Rattle.pre_cli.specs.Readings.{Instead, Gave}
 use Rattle.pre_cli.specs.Replaying.{script_in}

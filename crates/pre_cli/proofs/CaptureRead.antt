@@ -16,7 +16,7 @@ use Rattle.pre_dissect.specs.Results.{TextTells}
 use Rattle.pre_cli.specs.declared.statuses.Status.TheVariants as status
 use Rattle.pre_cli.specs.Answers.{Outside}
 use Rattle.pre_cli.specs.Capturing.{Capture, capturing, scenario_in, watched_arc, CapturingLeaves, ReadsAsTold}
-use Rattle.pre_cli.specs.Certifying.{OfFiles}
+use Rattle.pre_cli.specs.Files.{OfFiles}
 use Rattle.pre_cli.specs.Due.{TellsFiles}
 use Rattle.pre_cli.specs.Readings.{Gave}
 use Rattle.pre_cli.specs.Words.{CaptureWords}

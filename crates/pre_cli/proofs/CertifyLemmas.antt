@@ -1,5 +1,6 @@
 -- What the parts of the command that certifies answer, as answers of the whole.
-use Rattle.std.proofs.Common.{◌≡◌, ◌≢◌, ◌⊎◌, inl, inr, ℕ, ◌<◌, ◌≤◌, List, length, codes, [], Option, None, Some, Ok, Err, Bool, true, false, refl, sym, ◌∙◌, ap, subst, arith, if◌then◌else◌}
+use Rattle.std.proofs.Common.{◌≡◌, ◌≢◌, ◌⊎◌, inl, inr, ℕ, ◌<◌, ◌≤◌, List, length, codes, [], Option, None, Some, Ok}
+use Rattle.std.proofs.Common.{Err, Bool, true, false, refl, sym, ◌∙◌, ap, subst, arith, if◌then◌else◌}
 use Rattle.std.proofs.lemmas.List.{append-nil}
 use Rattle.std.specs.Str.{bytes_eq}
 use Rattle.std.specs.FinMap.{get}
@@ -13,7 +14,6 @@ use Rattle.pre_topo.specs.declared.network.Network.{Network}
 use Rattle.pre_topo.specs.declared.faults.TopoFault.{TopoFault}
 use Rattle.pre_topo.specs.declared.faults.TopoFault.TheVariants as topo
 use Rattle.pre_topo.specs.NetworkOf as networks
-use Rattle.pre_streams.specs.declared.rows.Row.{Row}
 use Rattle.pre_streams.specs.declared.rows.Streams.{Streams}
 use Rattle.pre_streams.specs.declared.faults.StreamFault.{StreamFault}
 use Rattle.pre_streams.specs.declared.faults.StreamFault.TheVariants as stream
@@ -34,8 +34,11 @@ use Rattle.pre_cli.specs.declared.statuses.Status.{Status}
 use Rattle.pre_cli.specs.declared.statuses.Status.TheVariants as status
 use Rattle.pre_cli.specs.Scripts.{max_file}
 use Rattle.pre_cli.specs.Answers.{Outside}
-use Rattle.pre_cli.specs.Listed.{IsFlushed}
-use Rattle.pre_cli.specs.Certifying.{text_named, IsTextIn, OfFiles, IsGone, IsFileIn, IsNoFile, IsLongFile, topo_status, stream_status, IsLong, IsNetIn, NetRefused, AreStreamsIn, StreamsRefused, InPlace, pair_network, pair_streams, unfit_status, UnfitCause, HaveCycle, HasCertificate, IsLeastOfBoth, IsAnswerTo, RoundsCause, RefusalCause, HasNone, CertifiedCause, TakesFlushed, CertifiedLeaves, AreBothIn, RefusedIn, GoneIn, CertifyingCause, CertifyingLeaves}
+use Rattle.pre_cli.specs.Files.{text_named, IsTextIn, OfFiles, IsGone, IsFileIn, IsNoFile, IsLongFile, topo_status, stream_status, IsLong, IsNetIn, NetRefused, AreStreamsIn, StreamsRefused, InPlace, pair_network, pair_streams}
+use Rattle.pre_cli.specs.Certifying.{unfit_status, UnfitCause, HaveCycle, HasCertificate, IsLeastOfBoth, IsAnswerTo, RoundsCause, RefusalCause}
+use Rattle.pre_cli.specs.Certifying.{HasNone, CertifiedCause, TakesFlushed, CertifiedLeaves, AreBothIn, RefusedIn, GoneIn, CertifyingCause}
+use Rattle.pre_cli.specs.Certifying.{CertifyingLeaves}
+use Rattle.pre_cli.specs.Runs.{FlushEnds}
 
 -- ---- told values
 
@@ -149,20 +152,27 @@ net_refused topo.Memory word text before now a b due is = tt
 pub streams_read : (word text : List ℕ) (net : Network) (streams : Streams) (a b : Option Told) → rows.ReadsAs (Ok streams) (rows.streams_of net text) → WhereTold a b (OfFiles (IsTextIn pair_streams word text)) → WhereTold a b (OfFiles (AreStreamsIn word net streams))
 streams_read word text net streams a b read = of_more a b (IsTextIn pair_streams word text) (AreStreamsIn word net streams) (λ files p. (text, p, read))
 
-streams_fault : (word text : List ℕ) (net : Network) (fault : StreamFault) (a b : Option Told) → rows.streams_of net text ≡ Err fault → WhereTold a b (OfFiles (IsTextIn pair_streams word text)) → WhereTold a b (OfFiles (StreamsRefused word net (stream_status fault)))
-streams_fault word text net fault a b read = of_more a b (IsTextIn pair_streams word text) (StreamsRefused word net (stream_status fault)) (λ files p. inr (text, p, (fault, read, refl)))
+-- a fault of a file of streams, by the kind of file
+module _ (kind : FileWord) (gone : Option Told → Type 0) (refused : Status → Files → Type 0) (IsText : Files → Type 0) (text : List ℕ) (net : Network) (before now : ℕ) (a b : Option Told)
+    (refuses : (fault : StreamFault) (files : Files) → IsText files → rows.streams_of net text ≡ Err fault → refused (stream_status kind fault) files) where
+  by_fault : (fault : StreamFault) → rows.streams_of net text ≡ Err fault → WhereTold a b (OfFiles IsText) → WhereTold a b (OfFiles (refused (stream_status kind fault)))
+  by_fault fault read = of_more a b IsText (refused (stream_status kind fault)) (λ files p. refuses fault files p read)
+
+  pub stream_file_refused : (fault : StreamFault) → rows.IsDue fault (rows.streams_of net text) → WhereTold a b (OfFiles IsText) → InPlace (stream_status kind fault) gone refused before now a b
+  stream_file_refused stream.Toml due is = by_fault stream.Toml due is
+  stream_file_refused (stream.Field row) due is = by_fault (stream.Field row) due is
+  stream_file_refused (stream.Name row) due is = by_fault (stream.Name row) due is
+  stream_file_refused (stream.Route row hop) due is = by_fault (stream.Route row hop) due is
+  stream_file_refused (stream.Class row) due is = by_fault (stream.Class row) due is
+  stream_file_refused (stream.Range row) due is = by_fault (stream.Range row) due is
+  stream_file_refused (stream.Burst row) due is = by_fault (stream.Burst row) due is
+  stream_file_refused stream.Count due is = by_fault stream.Count due is
+  stream_file_refused stream.Memory due is = tt
 
 pub streams_refused : (fault : StreamFault) (word text : List ℕ) (net : Network) (before now : ℕ) (a b : Option Told) → rows.IsDue fault (rows.streams_of net text) → WhereTold a b (OfFiles (IsTextIn pair_streams word text))
-    → InPlace (stream_status fault) (IsGone pair_streams word) (StreamsRefused word net) before now a b
-streams_refused stream.Toml word text net before now a b due is = streams_fault word text net stream.Toml a b due is
-streams_refused (stream.Field row) word text net before now a b due is = streams_fault word text net (stream.Field row) a b due is
-streams_refused (stream.Name row) word text net before now a b due is = streams_fault word text net (stream.Name row) a b due is
-streams_refused (stream.Route row hop) word text net before now a b due is = streams_fault word text net (stream.Route row hop) a b due is
-streams_refused (stream.Class row) word text net before now a b due is = streams_fault word text net (stream.Class row) a b due is
-streams_refused (stream.Range row) word text net before now a b due is = streams_fault word text net (stream.Range row) a b due is
-streams_refused (stream.Burst row) word text net before now a b due is = streams_fault word text net (stream.Burst row) a b due is
-streams_refused stream.Count word text net before now a b due is = streams_fault word text net stream.Count a b due is
-streams_refused stream.Memory word text net before now a b due is = tt
+    → InPlace (stream_status file.Streams fault) (IsGone pair_streams word) (StreamsRefused word net) before now a b
+streams_refused fault word text net before now a b =
+    stream_file_refused file.Streams (IsGone pair_streams word) (StreamsRefused word net) (IsTextIn pair_streams word text) text net before now a b (λ e files p read. inr (text, p, (e, read, refl))) fault
 
 -- ---- the certificate
 
@@ -218,38 +228,21 @@ unfit_leaves (unfit.Ring arc prio need) net streams a = refl
 unfit_leaves unfit.Memory net streams a = refl
 
 -- the certificate was written whole, and then passed on or not
-pub flushed_leaves : (s : Status) (net : Network) (streams : Streams) (k : Certificate) (a b c : Option Taken) → IsLeastOfBoth net streams k → WhereTold a b (TakesWhole (certificate_text net streams.rows k)) → IsFlushed s b c → CertifiedLeaves s net streams a c
-flushed_leaves status.Done net streams k a b c least took ends =
+pub flushed_leaves : (s : Status) (net : Network) (streams : Streams) (k : Certificate) (a b c : Option Taken) (between now : ℕ) → IsLeastOfBoth net streams k
+    → WhereTold a b (TakesWhole (certificate_text net streams.rows k)) → FlushEnds status.Done s b c between now → CertifiedLeaves s net streams a c
+flushed_leaves s net streams k a b c between now least took (inl (is, ends, later)) =
+    subst (λ (x : Status). CertifiedLeaves x net streams a c) (sym is)
     (k, least, WhereTold-join a b c _ _ (TakesFlushed (certificate_text net streams.rows k)) (λ x y z p q. (q.0 ∙ p, q.1)) took ends)
-flushed_leaves status.WriteFault net streams k a b c least took ends =
-    (k, least, WhereTold-join a b c _ _ (TakesFront (certificate_text net streams.rows k)) (λ x y z p q. ([], (certificate_text net streams.rows k, sym (append-nil (certificate_text net streams.rows k)), q ∙ p))) took ends)
-flushed_leaves status.ReadFault net streams k a b c least took ends = absurd ends
-flushed_leaves (status.Form kind line rule) net streams k a b c least took ends = absurd ends
-flushed_leaves (status.Rules kind row rule) net streams k a b c least took ends = absurd ends
-flushed_leaves (status.Unfit u) net streams k a b c least took ends = absurd ends
-flushed_leaves status.Memory net streams k a b c least took ends = absurd ends
-flushed_leaves status.Words net streams k a b c least took ends = absurd ends
-flushed_leaves (status.Rejected clause row) net streams k a b c least took ends = absurd ends
-flushed_leaves (status.Unruly line) net streams k a b c least took ends = absurd ends
-flushed_leaves (status.Unsettled arc prio) net streams k a b c least took ends = absurd ends
-flushed_leaves status.NoArc net streams k a b c least took ends = absurd ends
-flushed_leaves (status.Alias arc ordinal) net streams k a b c least took ends = absurd ends
+flushed_leaves s net streams k a b c between now least took (inr (is, ends, later, rose)) =
+    let text = certificate_text net streams.rows k in
+    subst (λ (x : Status). CertifiedLeaves x net streams a c) (sym is)
+    (k, least, WhereTold-join a b c _ _ (TakesFront text) (λ x y z p q. ([], (text, sym (append-nil text), q ∙ p))) took ends)
 
-pub flushed_cause : (s : Status) (net : Network) (streams : Streams) (before between now : ℕ) (a b : Option Taken) → HasCertificate net streams → before ≤ between → IsFlushed s a b → (s ≡ status.WriteFault → Rose between now)
-    → CertifiedCause s net streams before now
-flushed_cause status.Done net streams before between now a b has later ends rose = has
-flushed_cause status.WriteFault net streams before between now a b has later ends rose = (omega (arith, later, rose refl), has)
-flushed_cause status.ReadFault net streams before between now a b has later ends rose = absurd ends
-flushed_cause (status.Form kind line rule) net streams before between now a b has later ends rose = absurd ends
-flushed_cause (status.Rules kind row rule) net streams before between now a b has later ends rose = absurd ends
-flushed_cause (status.Unfit u) net streams before between now a b has later ends rose = absurd ends
-flushed_cause status.Memory net streams before between now a b has later ends rose = absurd ends
-flushed_cause status.Words net streams before between now a b has later ends rose = absurd ends
-flushed_cause (status.Rejected clause row) net streams before between now a b has later ends rose = absurd ends
-flushed_cause (status.Unruly line) net streams before between now a b has later ends rose = absurd ends
-flushed_cause (status.Unsettled arc prio) net streams before between now a b has later ends rose = absurd ends
-flushed_cause status.NoArc net streams before between now a b has later ends rose = absurd ends
-flushed_cause (status.Alias arc ordinal) net streams before between now a b has later ends rose = absurd ends
+pub flushed_cause : (s : Status) (net : Network) (streams : Streams) (before between now : ℕ) (a b : Option Taken) → HasCertificate net streams → before ≤ between
+    → FlushEnds status.Done s a b between now → CertifiedCause s net streams before now
+flushed_cause s net streams before between now a b has sooner (inl (is, ends, later)) = subst (λ (x : Status). CertifiedCause x net streams before now) (sym is) has
+flushed_cause s net streams before between now a b has sooner (inr (is, ends, later, rose)) =
+    subst (λ (x : Status). CertifiedCause x net streams before now) (sym is) (omega (arith, sooner, rose), has)
 
 -- ---- the command
 

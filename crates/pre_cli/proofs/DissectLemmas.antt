@@ -14,7 +14,7 @@ use Rattle.pre_cli.specs.declared.statuses.FileWord.TheVariants as file
 use Rattle.pre_cli.specs.declared.statuses.Status.{Status}
 use Rattle.pre_cli.specs.declared.statuses.Status.TheVariants as status
 use Rattle.pre_cli.specs.Answers.{Outside}
-use Rattle.pre_cli.specs.Certifying.{OfFiles, IsFileIn, IsLongFile}
+use Rattle.pre_cli.specs.Files.{OfFiles, IsFileIn, IsLongFile}
 use Rattle.pre_cli.specs.Dissecting.{fault_status, DissectedCause, FirstLines, DissectedLeaves, IsUnread, DissectingCause, DissectingLeaves}
 use Rattle.pre_cli.specs.Runs.{FlushEnds}
 

@@ -1,5 +1,7 @@
 -- Lemmas: what a drill answers and leaves.
-use Rattle.std.proofs.Common.{◌≡◌, ◌⊎◌, inl, inr, ℕ, ◌+◌, ◌-◌, ◌<◌, ◌≤◌, ◌==◌, ◌++◌, Bool, true, false, List, [], ◌∷◌, length, map, filter, fold, max, zero, suc, Option, Some, None, refl, sym, ◌∙◌, ap, subst, arith}
+use Rattle.std.proofs.Common.{◌≡◌, ◌⊎◌, inl, inr, ℕ, ◌+◌, ◌-◌, ◌<◌, ◌≤◌, ◌==◌, ◌++◌, Bool, true, false}
+use Rattle.std.proofs.Common.{List, [], ◌∷◌, length, map, filter, fold, max, zero, suc, Option, Some, None, refl, sym, ◌∙◌, ap, subst}
+use Rattle.std.proofs.Common.{arith}
 use Rattle.std.proofs.Math.Nat.{max-le}
 use Rattle.std.proofs.lemmas.Bool.{cases_Bool, eqb-true}
 use Rattle.std.proofs.lemmas.List.{append-nil}
@@ -44,7 +46,7 @@ use Rattle.pre_cli.specs.declared.statuses.Status.{Status}
 use Rattle.pre_cli.specs.declared.statuses.Status.TheVariants as status
 use Rattle.pre_cli.specs.Certifying.{IsLeastRanked, unfit_status}
 use Rattle.pre_cli.specs.Drilling.{Drill, scenario, IsDrilled, DrillingCause, Drilled, DrilledFront, DrillingLeaves}
-use Rattle.pre_cli.specs.Listed.{IsFlushed}
+use Rattle.pre_cli.specs.Runs.{FlushEnds}
 use Rattle.pre_cli.proofs.CertifyLemmas.{alone_at}
 use Rattle.pre_cli.proofs.CurveLemmas.{at_lt}
 
@@ -131,9 +133,9 @@ module _ (number : ℕ) (x : Drill number) (c : Certificate) (least : IsLeastRan
   pub torn_leaves : (a b : Option Taken) → WhereTold a b (TakesFront (summary_text x.net x.streams x.script h c.bounds number)) → DrillingLeaves number status.WriteFault a b
   torn_leaves a b took = (x, c, WhereTold-map a b _ (DrilledFront number x c) (λ p q front. record { certificate_is_least = least; history = h; history_is_legal = legal; front = front }) took)
 
-  pub flushed_leaves : (s : Status) (a b d : Option Taken) → All (λ bound. (figures_of x.script h bound.0.0).greatest ≤ bound.1) c.bounds
-      → WhereTold a b (TakesWhole (summary_text x.net x.streams x.script h c.bounds number)) → IsFlushed s b d → DrillingLeaves number s a d
-  flushed_leaves status.Done a b d within took ends = (
+  pub flushed_leaves : (s : Status) (a b d : Option Taken) (between now : ℕ) → All (λ bound. (figures_of x.script h bound.0.0).greatest ≤ bound.1) c.bounds
+      → WhereTold a b (TakesWhole (summary_text x.net x.streams x.script h c.bounds number)) → FlushEnds status.Done s b d between now → DrillingLeaves number s a d
+  flushed_leaves s a b d between now within took (inl (is, ends, later)) = subst (λ (y : Status). DrillingLeaves number y a d) (sym is) (
     x,
     c,
     WhereTold-join a b d _ _ (Drilled number x c) (λ p q r whole more. record {
@@ -145,36 +147,16 @@ module _ (number : ℕ) (x : Drill number) (c : Certificate) (least : IsLeastRan
       delays_are_within_bounds = within;
     }) took ends,
   )
-  flushed_leaves status.WriteFault a b d within took ends =
+  flushed_leaves s a b d between now within took (inr (is, ends, later, rose)) =
       let text = summary_text x.net x.streams x.script h c.bounds number in
-      torn_leaves a d (WhereTold-join a b d _ _ (TakesFront text) (λ p q r whole more. ([], (text, sym (append-nil text), more ∙ whole))) took ends)
-  flushed_leaves status.ReadFault a b d within took ends = absurd ends
-  flushed_leaves (status.Form kind line rule) a b d within took ends = absurd ends
-  flushed_leaves (status.Rules kind row rule) a b d within took ends = absurd ends
-  flushed_leaves (status.Unfit u) a b d within took ends = absurd ends
-  flushed_leaves status.Memory a b d within took ends = absurd ends
-  flushed_leaves status.Words a b d within took ends = absurd ends
-  flushed_leaves (status.Rejected clause row) a b d within took ends = absurd ends
-  flushed_leaves (status.Unruly line) a b d within took ends = absurd ends
-  flushed_leaves (status.Unsettled arc prio) a b d within took ends = absurd ends
-  flushed_leaves status.NoArc a b d within took ends = absurd ends
-  flushed_leaves (status.Alias arc ordinal) a b d within took ends = absurd ends
+      subst (λ (y : Status). DrillingLeaves number y a d) (sym is)
+      (torn_leaves a d (WhereTold-join a b d _ _ (TakesFront text) (λ p q r whole more. ([], (text, sym (append-nil text), more ∙ whole))) took ends))
 
-pub flushed_cause : (number : ℕ) (x : Drill number) (s : Status) (before between now : ℕ) (a b : Option Taken) → IsDrilled x → before ≤ between → IsFlushed s a b → (s ≡ status.WriteFault → Rose between now)
-    → DrillingCause number s before now
-flushed_cause number x status.Done before between now a b drilled later ends rose = (x, drilled)
-flushed_cause number x status.WriteFault before between now a b drilled later ends rose = (omega (arith, later, rose refl), (x, drilled))
-flushed_cause number x status.ReadFault before between now a b drilled later ends rose = absurd ends
-flushed_cause number x (status.Form kind line rule) before between now a b drilled later ends rose = absurd ends
-flushed_cause number x (status.Rules kind row rule) before between now a b drilled later ends rose = absurd ends
-flushed_cause number x (status.Unfit u) before between now a b drilled later ends rose = absurd ends
-flushed_cause number x status.Memory before between now a b drilled later ends rose = absurd ends
-flushed_cause number x status.Words before between now a b drilled later ends rose = absurd ends
-flushed_cause number x (status.Rejected clause row) before between now a b drilled later ends rose = absurd ends
-flushed_cause number x (status.Unruly line) before between now a b drilled later ends rose = absurd ends
-flushed_cause number x (status.Unsettled arc prio) before between now a b drilled later ends rose = absurd ends
-flushed_cause number x status.NoArc before between now a b drilled later ends rose = absurd ends
-flushed_cause number x (status.Alias arc ordinal) before between now a b drilled later ends rose = absurd ends
+pub flushed_cause : (number : ℕ) (x : Drill number) (s : Status) (before between now : ℕ) (a b : Option Taken) → IsDrilled x → before ≤ between
+    → FlushEnds status.Done s a b between now → DrillingCause number s before now
+flushed_cause number x s before between now a b drilled sooner (inl (is, ends, later)) = subst (λ (y : Status). DrillingCause number y before now) (sym is) (x, drilled)
+flushed_cause number x s before between now a b drilled sooner (inr (is, ends, later, rose)) =
+    subst (λ (y : Status). DrillingCause number y before now) (sym is) (omega (arith, sooner, rose), (x, drilled))
 
 -- a refusal of the certifier is answered with its cause
 pub refused_cause : (number : ℕ) (x : Drill number) (u : Unfit) (before now : ℕ) → Cause x.net x.streams.rows u → (u ≡ unfit.Memory) ⊎ IsAlone x.net x.streams u → DrillingCause number (unfit_status u) before now

@@ -6,11 +6,13 @@ use Rattle.pre_history.specs.Legal.{Legal, FirstAliasAt}
 use Rattle.pre_cli.specs.declared.statuses.Status.{Status}
 use Rattle.pre_cli.specs.declared.statuses.Status.TheVariants as status
 use Rattle.pre_cli.specs.Answers.{Outside}
-use Rattle.pre_cli.specs.Commands.{Command, certifies, lists, judges, migrates, replays, drills, captures, dissects, unknown, command_of, CauseBy, CauseOf}
+use Rattle.pre_cli.specs.Commands.{Command, certifies, lists, judges, migrates, admits, replays, drills, captures, dissects, unknown, command_of, CauseBy, CauseOf}
+use Rattle.pre_cli.specs.Admitting.{admitting}
 use Rattle.pre_cli.specs.Capturing.{capturing}
 use Rattle.pre_cli.specs.Capturing as captured
 use Rattle.pre_cli.specs.Judging.{judging}
 use Rattle.pre_cli.specs.Replaying.{RunsTo, replaying, scenario_in}
+use Rattle.pre_cli.proofs.AdmitLemmas.{admitting_refusing}
 use Rattle.pre_cli.proofs.CaptureLemmas.{capturing_refusing}
 use Rattle.pre_cli.proofs.JudgeLemmas.{judging_refusing}
 use Rattle.pre_cli.proofs.ReadingLemmas.{no_words}
@@ -40,6 +42,7 @@ only_unknown (certifies net streams) o cause = absurd cause
 only_unknown (lists name) o cause = absurd cause
 only_unknown (judges words) o cause = absurd (no_words (judging words) (λ x s. s ≡ status.Done) o (judging_refusing words) (λ x e. not_done e) cause)
 only_unknown (migrates words) o cause = absurd (no_words (judging words) (λ x s. s ≡ status.Done) o (judging_refusing words) (λ x e. not_done e) cause)
+only_unknown (admits words) o cause = absurd (no_words (admitting words) (λ x s. s ≡ status.Done) o (admitting_refusing words) (λ x e. not_done e) cause)
 only_unknown (replays words) o cause = absurd (no_words (replaying words) (λ x s. RunsTo (scenario_in x) s) o (replaying_refusing words) (λ x ends. runs_to_no_words (scenario_in x) ends) cause)
 only_unknown (drills number) o cause = absurd cause
 only_unknown (captures words) o cause = absurd (no_words (capturing words) (λ x s. RunsTo (captured.scenario_in x) s) o (capturing_refusing words) (λ x ends. runs_to_no_words (captured.scenario_in x) ends) cause)

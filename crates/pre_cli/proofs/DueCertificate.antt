@@ -9,7 +9,8 @@ use Rattle.pre_cli.specs.declared.statuses.Status.TheVariants as status
 use Rattle.pre_cli.specs.Scripts.{max_file}
 use Rattle.pre_cli.specs.Answers.{Outside}
 use Rattle.pre_cli.specs.Due.{GivesUp, TellsFiles}
-use Rattle.pre_cli.specs.Certifying.{text_named, topo_status, OfFiles, IsNetIn, NetRefused, AreBothIn, RefusedIn, GoneIn, HasBoth, CertifyingCause, pair_network}
+use Rattle.pre_cli.specs.Files.{text_named, topo_status, OfFiles, IsNetIn, NetRefused, pair_network}
+use Rattle.pre_cli.specs.Certifying.{AreBothIn, RefusedIn, GoneIn, HasBoth, CertifyingCause}
 use Rattle.pre_cli.proofs.DueReadings.{told_as}
 use Rattle.pre_cli.proofs.Texts.{err_same, ok_err, some_same}
 

@@ -14,7 +14,7 @@ use Rattle.pre_cli.specs.declared.statuses.Status.TheVariants as status
 use Rattle.pre_cli.specs.Answers.{Outside}
 use Rattle.pre_cli.specs.Due.{TellsFiles, GivesUp}
 use Rattle.pre_cli.specs.Scripts.{max_file}
-use Rattle.pre_cli.specs.Certifying.{OfFiles, IsFileIn, IsLongFile}
+use Rattle.pre_cli.specs.Files.{OfFiles, IsFileIn, IsLongFile}
 use Rattle.pre_cli.specs.Dissecting.{fault_status, DissectedCause, DissectingCause, IsDueDissection, MissingCapture, LongCapture, WholeCapture, FaultyCapture}
 use Rattle.pre_cli.proofs.DueReadings.{told_as}
 use Rattle.pre_cli.proofs.Texts.{some_same}

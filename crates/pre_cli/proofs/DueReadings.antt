@@ -6,7 +6,7 @@ use Rattle.pre_base.specs.Shelves.{Told, Files}
 use Rattle.pre_cli.specs.declared.statuses.Status.{Status}
 use Rattle.pre_cli.specs.declared.statuses.Status.TheVariants as status
 use Rattle.pre_cli.specs.Answers.{Outside}
-use Rattle.pre_cli.specs.Certifying.{OfFiles, GoneFrom}
+use Rattle.pre_cli.specs.Files.{OfFiles, GoneFrom}
 use Rattle.pre_cli.specs.Due.{TellsFiles}
 use Rattle.pre_cli.specs.Readings.{Reading, then_read, tested, Outcome, missing, refuses, reads, ComeTo, EndIsDue, OneOutcome, EndsAreDue}
 

@@ -12,6 +12,7 @@ use Rattle.pre_certify.specs.Causes as causes
 use Rattle.pre_certify.specs.declared.unfit.Unfit.{Unfit}
 use Rattle.pre_certify.specs.declared.unfit.Unfit.TheVariants as unfit
 use Rattle.pre_cli.specs.declared.statuses.Status.{Status}
+use Rattle.pre_cli.specs.declared.statuses.FileWord.TheVariants as file
 use Rattle.pre_cli.specs.declared.statuses.Status.TheVariants as status
 use Rattle.pre_cli.specs.Answers.{Outside}
 use Rattle.pre_cli.specs.Due.{GivesUp, TellsFiles}
@@ -21,7 +22,8 @@ use Rattle.pre_rounds.specs.declared.faults.RoundsFault.{RoundsFault}
 use Rattle.pre_rounds.specs.declared.faults.RoundsFault.TheVariants as rounds
 use Rattle.pre_rounds.specs.Causes as of_rounds
 use Rattle.pre_rounds.specs.Answers.{NoneCaused}
-use Rattle.pre_cli.specs.Certifying.{text_named, stream_status, OfFiles, IsNetIn, AreStreamsIn, StreamsRefused, HasCertificate, UnfitCause, HaveCycle, HasNone, IsAnswerTo, AreBothIn, RefusedIn, GoneIn, HasBoth, CertifyingCause, pair_network, pair_streams}
+use Rattle.pre_cli.specs.Files.{text_named, stream_status, OfFiles, IsNetIn, AreStreamsIn, StreamsRefused, pair_network, pair_streams}
+use Rattle.pre_cli.specs.Certifying.{HasCertificate, UnfitCause, HaveCycle, HasNone, IsAnswerTo, AreBothIn, RefusedIn, GoneIn, HasBoth, CertifyingCause}
 use Rattle.pre_cli.specs.DueCertificates.{IsCertified, IsDueForBoth, RefusesAs}
 use Rattle.pre_cli.proofs.DueReadings.{told_as}
 use Rattle.pre_cli.proofs.CertifyLemmas.{true_false}
@@ -50,7 +52,7 @@ streams_one word net s t files (inl p) (inr (y, q, (fault, read, is))) = absurd 
 streams_one word net s t files (inr (x, p, (fault, read, is))) (inl q) = absurd (too_long q.0 x (same_text pair_streams word q.0 x files q.1 p.is) q.2 p.short)
 streams_one word net s t files (inr (x, p, (fault, read, is))) (inr (y, q, (other, read_too, is_too))) =
     let same : x ≡ y = same_text pair_streams word x y files p.is q.is in
-    is ∙ ap stream_status (err_same (streams_of net x) fault other read (ap (streams_of net) same ∙ read_too)) ∙ sym is_too
+    is ∙ ap (stream_status file.Streams) (err_same (streams_of net x) fault other read (ap (streams_of net) same ∙ read_too)) ∙ sym is_too
 
 -- and are none
 streams_not : (word : List ℕ) (net : Network) (s : Status) (streams : Streams) (files : Files) → StreamsRefused word net s files → AreStreamsIn word net streams files → ⊥

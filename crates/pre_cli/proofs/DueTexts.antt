@@ -18,7 +18,7 @@ use Rattle.pre_cli.specs.declared.statuses.FileWord.{FileWord}
 use Rattle.pre_cli.specs.declared.statuses.FileWord.TheVariants as file
 use Rattle.pre_cli.specs.declared.statuses.Status.{Status}
 use Rattle.pre_cli.specs.declared.statuses.Status.TheVariants as status
-use Rattle.pre_cli.specs.Certifying.{pair_network, pair_streams, text_named, topo_status, stream_status, IsNetIn, NetRefused, AreStreamsIn, StreamsRefused}
+use Rattle.pre_cli.specs.Files.{pair_network, pair_streams, text_named, topo_status, stream_status, IsNetIn, NetRefused, AreStreamsIn, StreamsRefused}
 use Rattle.pre_cli.specs.Judging.{network_in, streams_in, IsCertificateIn, CertificateRefused, certificate_in}
 use Rattle.pre_cli.specs.Replaying.{IsScriptIn, ScriptRefused, script_in}
 use Rattle.pre_cli.proofs.OneReading.{one_network, one_streams}
@@ -48,25 +48,25 @@ module _ (word : List ℕ) where
 -- ---- streams
 
 module _ (word : List ℕ) (net : Network) where
-  streams_refuse : (files : Files) (s : Status) → StreamsRefused word net s files → Refuses file.Streams (streams_of net) stream_status (text_named pair_streams word files) s
+  streams_refuse : (files : Files) (s : Status) → StreamsRefused word net s files → Refuses file.Streams (streams_of net) (stream_status file.Streams) (text_named pair_streams word files) s
   streams_refuse files s (inl long) = inl long
   streams_refuse files s (inr (x, p, rest)) = inr (x, p.is, p.short, rest)
 
   streams_read : (files : Files) (streams : Streams) → AreStreamsIn word net streams files
-      → Reads file.Streams (streams_of net) stream_status (text_named pair_streams word files) (map row_parts streams.rows)
+      → Reads file.Streams (streams_of net) (stream_status file.Streams) (text_named pair_streams word files) (map row_parts streams.rows)
   streams_read files streams (x, p, well) = (x, p.is, p.short, well)
 
   pub streams_decided : Decided (streams_in word net)
   streams_decided = record {
     given_once = λ files streams other p q.
         one_streams streams other
-        (read_once file.Streams (streams_of net) stream_status (text_named pair_streams word files) (map row_parts streams.rows) (map row_parts other.rows)
+        (read_once file.Streams (streams_of net) (stream_status file.Streams) (text_named pair_streams word files) (map row_parts streams.rows) (map row_parts other.rows)
         (streams_read files streams p) (streams_read files other q));
-    refused_once = λ files s t p q. refused_once file.Streams (streams_of net) stream_status (text_named pair_streams word files) s t (streams_refuse files s p) (streams_refuse files t q);
+    refused_once = λ files s t p q. refused_once file.Streams (streams_of net) (stream_status file.Streams) (text_named pair_streams word files) s t (streams_refuse files s p) (streams_refuse files t q);
     not_refused = λ files streams s p q.
-        refused_not_read file.Streams (streams_of net) stream_status (text_named pair_streams word files) s (map row_parts streams.rows) (streams_refuse files s q) (streams_read files streams p);
-    not_gone = λ files streams p none. read_there file.Streams (streams_of net) stream_status (text_named pair_streams word files) (map row_parts streams.rows) (streams_read files streams p) none;
-    refused_there = λ files s p none. refused_there file.Streams (streams_of net) stream_status (text_named pair_streams word files) s (streams_refuse files s p) none;
+        refused_not_read file.Streams (streams_of net) (stream_status file.Streams) (text_named pair_streams word files) s (map row_parts streams.rows) (streams_refuse files s q) (streams_read files streams p);
+    not_gone = λ files streams p none. read_there file.Streams (streams_of net) (stream_status file.Streams) (text_named pair_streams word files) (map row_parts streams.rows) (streams_read files streams p) none;
+    refused_there = λ files s p none. refused_there file.Streams (streams_of net) (stream_status file.Streams) (text_named pair_streams word files) s (streams_refuse files s p) none;
   }
 
 -- ---- a certificate

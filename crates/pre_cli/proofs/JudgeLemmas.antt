@@ -13,7 +13,7 @@ use Rattle.pre_check.specs.Reading.{certificate_of, ReadsAs}
 use Rattle.pre_cli.specs.declared.statuses.FileWord.TheVariants as file
 use Rattle.pre_cli.specs.declared.statuses.Status.{Status}
 use Rattle.pre_cli.specs.declared.statuses.Status.TheVariants as status
-use Rattle.pre_cli.specs.Certifying.{pair_network, pair_streams, OfFiles, IsGone, IsFileIn, IsNoFile, InPlace, NetRefused, StreamsRefused}
+use Rattle.pre_cli.specs.Files.{pair_network, pair_streams, OfFiles, IsGone, IsFileIn, IsNoFile, InPlace, NetRefused, StreamsRefused}
 use Rattle.pre_cli.specs.Readings.{Instead}
 use Rattle.pre_cli.specs.Judging.{network_in, streams_in, certificate_status, IsCertificateIn, CertificateRefused, certificate_in, IsRejected, good_certificate_in, certified_in, judging}
 use Rattle.pre_cli.specs.Words.{JudgeWords}

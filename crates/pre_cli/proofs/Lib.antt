@@ -31,3 +31,8 @@ pub mod CaptureRuns
 pub mod CaptureLemmas
 pub mod DueCaptures
 pub mod CaptureRead
+pub mod HeldLines
+pub mod AdmitLemmas
+pub mod DueAdmissions
+pub mod OutcomeLines
+pub mod AdmitRead

@@ -1,5 +1,6 @@
 -- A listing grows by a line for each arrival.
-use Rattle.std.proofs.Common.{◌≡◌, ℕ, suc, ◌+◌, ◌<◌, List, [], ◌∷◌, ◌++◌, length, take, Option, Some, None, Result, Ok, Err, refl, sym, ◌∙◌, ap, subst, arith, append_assoc, length-append}
+use Rattle.std.proofs.Common.{◌≡◌, ℕ, suc, ◌+◌, ◌<◌, List, [], ◌∷◌, ◌++◌, length, take, Option, Some, None, Result, Ok}
+use Rattle.std.proofs.Common.{Err, refl, sym, ◌∙◌, ap, subst, arith, append_assoc, length-append, inl, inr}
 use Rattle.std.specs.Prelude.{◌↔◌}
 use Rattle.std.specs.Result.{IsErr}
 use Rattle.std.proofs.lemmas.Bool.{false≢true}
@@ -12,8 +13,9 @@ use Rattle.std.proofs.Math.Seq.{take-length}
 use Rattle.pre_cli.specs.declared.statuses.Status.{Status}
 use Rattle.pre_cli.specs.declared.statuses.Status.TheVariants as status
 use Rattle.pre_cli.specs.PacketFiles.{arrivals_of, ReadsAs}
-use Rattle.pre_cli.specs.Listed.{IsFlushed, ListedLeaves}
+use Rattle.pre_cli.specs.Listed.{ListedLeaves}
 use Rattle.pre_cli.specs.Listing.{packet_line, AreTaken, lines_from, come, IsListing, TakesList, TakesListFront, TakesListAll}
+use Rattle.pre_cli.specs.Runs.{FlushEnds}
 
 pub LaterTakings : Type 0
 LaterTakings = (A B : List (Option (List ℕ))) (i : ℕ) (t : Taking) → i < length A → IsTaken (A ++ B) i t ↔ IsTaken A i t
@@ -98,26 +100,18 @@ none_listed (Some x) = ([], ([], refl, refl), sym (append-nil x.octets))
 
 -- ---- the octets of a file
 
-pub flushed_leaves : (s : Status) (octets : List ℕ) (arrivals : List (List ℕ)) (a b c : Option Taken) → arrivals_of octets ≡ Ok arrivals → WhereTold a b (TakesList arrivals) → IsFlushed s b c → ListedLeaves s octets a c
-flushed_leaves status.Done octets arrivals a b c due took ends =
-    WhereTold-join a b c _ _ _ (λ x y z p q. ((arrivals, due, (p.0, p.1, q.0 ∙ p.2)), q.1)) took ends
-flushed_leaves status.WriteFault octets arrivals a b c due took ends =
-    WhereTold-join a b c _ _ _ (λ x y z p q. (arrivals, due, whole arrivals x z p.0 p.1 (q ∙ p.2))) took ends
+pub flushed_leaves : (s : Status) (octets : List ℕ) (arrivals : List (List ℕ)) (a b c : Option Taken) (between now : ℕ) → arrivals_of octets ≡ Ok arrivals → WhereTold a b (TakesList arrivals)
+    → FlushEnds status.Done s b c between now → ListedLeaves s octets a c
+flushed_leaves s octets arrivals a b c between now due took (inl (is, ends, later)) =
+    subst (λ (x : Status). ListedLeaves x octets a c) (sym is)
+    (WhereTold-join a b c _ _ _ (λ x y z p q. ((arrivals, due, (p.0, p.1, q.0 ∙ p.2)), q.1)) took ends)
+flushed_leaves s octets arrivals a b c between now due took (inr (is, ends, later, rose)) =
+    subst (λ (x : Status). ListedLeaves x octets a c) (sym is)
+    (WhereTold-join a b c _ _ _ (λ x y z p q. (arrivals, due, whole x z p.0 p.1 (q ∙ p.2))) took ends)
   where
-    whole : (arrivals : List (List ℕ)) (x z : Taken) (text : List ℕ) → IsListing arrivals text → z.octets ≡ x.octets ++ text → TakesListFront arrivals x z
-    whole arrivals x z text listing took =
+    whole : (x z : Taken) (text : List ℕ) → IsListing arrivals text → z.octets ≡ x.octets ++ text → TakesListFront arrivals x z
+    whole x z text listing took =
         (length arrivals, text, [], subst (λ (l : List (List ℕ)). IsListing l text) (sym (take-length arrivals)) listing, (text, sym (append-nil text), took))
-flushed_leaves status.Memory octets arrivals a b c due took ends = absurd ends
-flushed_leaves status.Words octets arrivals a b c due took ends = absurd ends
-flushed_leaves (status.Rejected clause row) octets arrivals a b c due took ends = absurd ends
-flushed_leaves (status.Unruly line) octets arrivals a b c due took ends = absurd ends
-flushed_leaves (status.Unsettled arc prio) octets arrivals a b c due took ends = absurd ends
-flushed_leaves status.NoArc octets arrivals a b c due took ends = absurd ends
-flushed_leaves (status.Alias arc ordinal) octets arrivals a b c due took ends = absurd ends
-flushed_leaves status.ReadFault octets arrivals a b c due took ends = absurd ends
-flushed_leaves (status.Rules kind row rule) octets arrivals a b c due took ends = absurd ends
-flushed_leaves (status.Unfit cause) octets arrivals a b c due took ends = absurd ends
-flushed_leaves (status.Form kind line rule) octets arrivals a b c due took ends = absurd ends
 
 pub read_well : (found : List (List ℕ)) (due : Result (List (List ℕ)) ℕ) → ReadsAs (Ok found) due → due ≡ Ok found
 read_well found (Ok more) is = ap (λ (x : List (List ℕ)). Ok x) (sym is)

@@ -10,10 +10,11 @@ use Rattle.pre_base.specs.Sinks.{TakesWhole, TakesFront}
 use Rattle.pre_cli.specs.declared.statuses.Status.{Status}
 use Rattle.pre_cli.specs.declared.statuses.Status.TheVariants as status
 use Rattle.pre_cli.specs.Answers.{Outside}
-use Rattle.pre_cli.specs.Certifying.{OfFiles, GoneFrom, InPlace, TakesFlushed}
-use Rattle.pre_cli.specs.Listed.{IsFlushed}
+use Rattle.pre_cli.specs.Files.{OfFiles, GoneFrom, InPlace}
+use Rattle.pre_cli.specs.Certifying.{TakesFlushed}
 use Rattle.pre_cli.specs.Readings.{Reading, then_read, tested, IsTextAnswer, Instead, Gave, EndsCause, AnswerLeaves}
 use Rattle.pre_cli.specs.Putting.{PutEnds, PutCause}
+use Rattle.pre_cli.specs.Runs.{FlushEnds}
 use Rattle.pre_cli.proofs.CertifyLemmas.{of_more, of_both}
 
 -- ---- texts that aren't there
@@ -174,32 +175,11 @@ module _ {X : Type 0} (R : Reading X) (Whole Front : X → Taken → Taken → T
       IsTorn _ = ⊥
 
 -- all was written, and then passed on or not
-pub flushed_ends : (s : Status) (text : List ℕ) (a b d : Option Taken) → WhereTold a b (TakesWhole text) → IsFlushed s b d → PutEnds s text a d
-flushed_ends status.Done text a b d took ends = inl (refl, WhereTold-join a b d _ _ (TakesFlushed text) (λ x y z p q. (q.0 ∙ p, q.1)) took ends)
-flushed_ends status.WriteFault text a b d took ends = inr (refl, WhereTold-join a b d _ _ (TakesFront text) (λ x y z p q. ([], (text, sym (append-nil text), q ∙ p))) took ends)
-flushed_ends status.ReadFault text a b d took ends = absurd ends
-flushed_ends status.Words text a b d took ends = absurd ends
-flushed_ends status.Memory text a b d took ends = absurd ends
-flushed_ends (status.Form kind line rule) text a b d took ends = absurd ends
-flushed_ends (status.Rules kind row rule) text a b d took ends = absurd ends
-flushed_ends (status.Unfit u) text a b d took ends = absurd ends
-flushed_ends (status.Rejected clause row) text a b d took ends = absurd ends
-flushed_ends (status.Unruly line) text a b d took ends = absurd ends
-flushed_ends (status.Unsettled arc prio) text a b d took ends = absurd ends
-flushed_ends status.NoArc text a b d took ends = absurd ends
-flushed_ends (status.Alias arc ordinal) text a b d took ends = absurd ends
+pub flushed_ends : (s : Status) (text : List ℕ) (a b d : Option Taken) (between now : ℕ) → WhereTold a b (TakesWhole text) → FlushEnds status.Done s b d between now → PutEnds s text a d
+flushed_ends s text a b d between now took (inl (is, ends, later)) = inl (is, WhereTold-join a b d _ _ (TakesFlushed text) (λ x y z p q. (q.0 ∙ p, q.1)) took ends)
+flushed_ends s text a b d between now took (inr (is, ends, later, rose)) =
+    inr (is, WhereTold-join a b d _ _ (TakesFront text) (λ x y z p q. ([], (text, sym (append-nil text), q ∙ p))) took ends)
 
-pub flushed_cause : (s : Status) (before between now : ℕ) (a b : Option Taken) → before ≤ between → between ≤ now → IsFlushed s a b → (s ≡ status.WriteFault → Rose between now) → PutCause s before now
-flushed_cause status.Done before between now a b sooner later ends rose = (omega (arith, sooner, later), inl refl)
-flushed_cause status.WriteFault before between now a b sooner later ends rose = (omega (arith, sooner, later), inr (refl, omega (arith, sooner, rose refl)))
-flushed_cause status.ReadFault before between now a b sooner later ends rose = absurd ends
-flushed_cause status.Words before between now a b sooner later ends rose = absurd ends
-flushed_cause status.Memory before between now a b sooner later ends rose = absurd ends
-flushed_cause (status.Form kind line rule) before between now a b sooner later ends rose = absurd ends
-flushed_cause (status.Rules kind row rule) before between now a b sooner later ends rose = absurd ends
-flushed_cause (status.Unfit u) before between now a b sooner later ends rose = absurd ends
-flushed_cause (status.Rejected clause row) before between now a b sooner later ends rose = absurd ends
-flushed_cause (status.Unruly line) before between now a b sooner later ends rose = absurd ends
-flushed_cause (status.Unsettled arc prio) before between now a b sooner later ends rose = absurd ends
-flushed_cause status.NoArc before between now a b sooner later ends rose = absurd ends
-flushed_cause (status.Alias arc ordinal) before between now a b sooner later ends rose = absurd ends
+pub flushed_cause : (s : Status) (before between now : ℕ) (a b : Option Taken) → before ≤ between → FlushEnds status.Done s a b between now → PutCause s before now
+flushed_cause s before between now a b sooner (inl (is, ends, later)) = (omega (arith, sooner, later), inl is)
+flushed_cause s before between now a b sooner (inr (is, ends, later, rose)) = (omega (arith, sooner, later), inr (is, omega (arith, sooner, rose)))

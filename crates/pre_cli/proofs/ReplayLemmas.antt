@@ -20,7 +20,7 @@ use Rattle.pre_cli.specs.declared.statuses.FileWord.TheVariants as file
 use Rattle.pre_cli.specs.declared.statuses.Status.{Status}
 use Rattle.pre_cli.specs.declared.statuses.Status.TheVariants as status
 use Rattle.pre_cli.specs.Answers.{Outside}
-use Rattle.pre_cli.specs.Certifying.{OfFiles, IsFileIn, IsNoFile, InPlace}
+use Rattle.pre_cli.specs.Files.{OfFiles, IsFileIn, IsNoFile, InPlace}
 use Rattle.pre_cli.specs.Curves.{CurvesHold, LinesRise}
 use Rattle.pre_cli.specs.Headline.{Headline}
 use Rattle.pre_cli.specs.Judging.{judging}

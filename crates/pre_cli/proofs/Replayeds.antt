@@ -5,7 +5,7 @@ use Rattle.pre_base.specs.Shelves.{Told}
 use Rattle.pre_base.specs.Sinks.{Taken}
 use Rattle.pre_cli.specs.declared.statuses.Status.TheVariants as status
 use Rattle.pre_cli.specs.Answers.{Outside}
-use Rattle.pre_cli.specs.Certifying.{OfFiles}
+use Rattle.pre_cli.specs.Files.{OfFiles}
 use Rattle.pre_cli.specs.Due.{TellsFiles}
 use Rattle.pre_cli.specs.Headline.{Headline}
 use Rattle.pre_cli.specs.Replaying.{scenario_in, certificate_in, replaying, ReplayingLeaves, Replayed}

@@ -13,3 +13,16 @@ pub record Outside : Type 0 where
   pub told_after : Option Told
   pub taken_before : Option Taken
   pub taken_after : Option Taken
+
+-- what a call sees whose shelf and sink count faults and tell like this, and were and are these
+abbrev pub outside : {A B : Type 0} → (A → ℕ) → (A → Option Told) → A → A → (B → ℕ) → (B → Option Taken) → B → B → Outside
+outside fails tells old new refuses takes before after = record {
+  shelf_before = fails old;
+  shelf_after = fails new;
+  sink_before = refuses before;
+  sink_after = refuses after;
+  told_before = tells old;
+  told_after = tells new;
+  taken_before = takes before;
+  taken_after = takes after;
+}

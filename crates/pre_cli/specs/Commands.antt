@@ -6,11 +6,12 @@ use Rattle.pre_cli.specs.declared.statuses.Status.{Status}
 use Rattle.pre_cli.specs.declared.statuses.Status.TheVariants as status
 use Rattle.pre_cli.specs.declared.commands.Asked.{Asked}
 use Rattle.pre_cli.specs.declared.commands.Asked.TheVariants as asked
-use Rattle.pre_cli.specs.Words.{JudgeWords, judge_words, ReplayWords, replay_words, CaptureWords, capture_words}
+use Rattle.pre_cli.specs.Words.{JudgeWords, judge_words, AdmitWords, admit_words, ReplayWords, replay_words, CaptureWords, capture_words}
 use Rattle.pre_cli.specs.Answers.{Outside}
 use Rattle.pre_cli.specs.Replaying.{ReplayingCause, ReplayingLeaves}
 use Rattle.pre_cli.specs.Readings.{AnswerCause, AnswerLeaves}
 use Rattle.pre_cli.specs.Judging.{judging, Accepts, AcceptsFront, Migrates, MigratesFront}
+use Rattle.pre_cli.specs.Admitting.{admitting, AdmitsAll, AdmitsFront}
 use Rattle.pre_cli.specs.Drilling.{DrillingCause, DrillingLeaves}
 use Rattle.pre_cli.specs.Capturing.{CapturingCause, CapturingLeaves}
 use Rattle.pre_cli.specs.Dissecting.{DissectingCause, DissectingLeaves}
@@ -23,6 +24,7 @@ pub data Command : Type 0 where
   lists : List ℕ → Command
   judges : JudgeWords → Command
   migrates : JudgeWords → Command
+  admits : AdmitWords → Command
   replays : ReplayWords → Command
   drills : ℕ → Command
   captures : CaptureWords → Command
@@ -36,13 +38,21 @@ drilling None = unknown
 
 -- what a command's name and the words behind it ask for, by their number
 abbrev pub with_one : List ℕ → List ℕ → Command
-with_one name word = if bytes_eq name (codes "mpackets") then lists word else if bytes_eq name (codes "drill") then drilling (number_of word) else if bytes_eq name (codes "dissect") then dissects word else unknown
+with_one name word =
+    if bytes_eq name (codes "mpackets") then lists word
+    else if bytes_eq name (codes "drill") then drilling (number_of word)
+    else if bytes_eq name (codes "dissect") then dissects word
+    else unknown
 
 abbrev pub with_two : List ℕ → List ℕ → List ℕ → Command
 with_two name net streams = if bytes_eq name (codes "certify") then certifies net streams else unknown
 
-abbrev pub with_three : List ℕ → JudgeWords → Command
-with_three name words = if bytes_eq name (codes "judge") then judges words else if bytes_eq name (codes "migrate") then migrates words else unknown
+abbrev pub with_three : List ℕ → List ℕ → List ℕ → List ℕ → Command
+with_three name net streams third =
+    if bytes_eq name (codes "judge") then judges (judge_words net streams third)
+    else if bytes_eq name (codes "migrate") then migrates (judge_words net streams third)
+    else if bytes_eq name (codes "admit") then admits (admit_words net streams third)
+    else unknown
 
 abbrev pub with_four : List ℕ → List ℕ → List ℕ → List ℕ → List ℕ → Command
 with_four name net streams third fourth =
@@ -51,7 +61,7 @@ with_four name net streams third fourth =
 abbrev pub command_of : List (List ℕ) → Command
 command_of (name ∷ word ∷ []) = with_one name word
 command_of (name ∷ net ∷ streams ∷ []) = with_two name net streams
-command_of (name ∷ net ∷ streams ∷ certificate ∷ []) = with_three name (judge_words net streams certificate)
+command_of (name ∷ net ∷ streams ∷ third ∷ []) = with_three name net streams third
 command_of (name ∷ net ∷ streams ∷ third ∷ fourth ∷ []) = with_four name net streams third fourth
 command_of words = unknown
 
@@ -61,6 +71,7 @@ command_asked (asked.Certifies net streams) = certifies net.now streams.now
 command_asked (asked.Lists file) = lists file.now
 command_asked (asked.Judges net streams certificate) = judges (judge_words net.now streams.now certificate.now)
 command_asked (asked.Migrates net streams certificate) = migrates (judge_words net.now streams.now certificate.now)
+command_asked (asked.Admits net streams more) = admits (admit_words net.now streams.now more.now)
 command_asked (asked.Replays net streams certificate script) = replays (replay_words net.now streams.now certificate.now script.now)
 command_asked (asked.Drills number) = drills number
 command_asked (asked.Captures net streams script arc) = captures (capture_words net.now streams.now script.now arc.now)
@@ -73,6 +84,7 @@ CauseBy (certifies net streams) s o = CertifyingCause s net streams o
 CauseBy (lists name) s o = ListingCause s name o
 CauseBy (judges words) s o = AnswerCause (judging words) s o
 CauseBy (migrates words) s o = AnswerCause (judging words) s o
+CauseBy (admits words) s o = AnswerCause (admitting words) s o
 CauseBy (replays words) s o = ReplayingCause words s o
 CauseBy (drills number) s o = DrillingCause number s o.sink_before o.sink_after
 CauseBy (captures words) s o = CapturingCause words s o
@@ -88,6 +100,7 @@ LeavesBy (certifies net streams) s o = CertifyingLeaves s net streams o
 LeavesBy (lists name) s o = ListingLeaves s name o o.taken_before o.taken_after
 LeavesBy (judges words) s o = AnswerLeaves (judging words) Accepts AcceptsFront s o
 LeavesBy (migrates words) s o = AnswerLeaves (judging words) Migrates MigratesFront s o
+LeavesBy (admits words) s o = AnswerLeaves (admitting words) AdmitsAll AdmitsFront s o
 LeavesBy (replays words) s o = ReplayingLeaves words s o
 LeavesBy (drills number) s o = DrillingLeaves number s o.taken_before o.taken_after
 LeavesBy (captures words) s o = CapturingLeaves words s o

@@ -48,14 +48,7 @@ DrillingCause number status.WriteFault before now = Rose before now × ((x : Dri
 DrillingCause number (status.Unfit cause) before now = (x : Drill number) × UnfitCause cause x.net x.streams
 DrillingCause number (status.Alias arc ordinal) before now = (x : Drill number) × HasLeast x.net x.streams × IsFirstAlias (scenario x) arc.0 ordinal
 DrillingCause number status.Memory before now = Unit {0}
-DrillingCause number status.Words before now = ⊥
-DrillingCause number status.ReadFault before now = ⊥
-DrillingCause number (status.Form kind line rule) before now = ⊥
-DrillingCause number (status.Rules kind row rule) before now = ⊥
-DrillingCause number (status.Rejected clause row) before now = ⊥
-DrillingCause number (status.Unruly line) before now = ⊥
-DrillingCause number (status.Unsettled arc prio) before now = ⊥
-DrillingCause number status.NoArc before now = ⊥
+DrillingCause number _ before now = ⊥
 
 -- ---- what the sink took
 
@@ -84,17 +77,7 @@ pub record DrilledFront (number : ℕ) (x : Drill number) (c : Certificate) (old
 abbrev pub DrillingLeaves : ℕ → Status → Option Taken → Option Taken → Type 0
 DrillingLeaves number status.Done old new = (x : Drill number) × (c : Certificate) × WhereTold old new (Drilled number x c)
 DrillingLeaves number status.WriteFault old new = (x : Drill number) × (c : Certificate) × WhereTold old new (DrilledFront number x c)
-DrillingLeaves number (status.Unfit cause) old new = new ≡ old
-DrillingLeaves number (status.Alias arc ordinal) old new = new ≡ old
-DrillingLeaves number status.Memory old new = new ≡ old
-DrillingLeaves number status.Words old new = new ≡ old
-DrillingLeaves number status.ReadFault old new = new ≡ old
-DrillingLeaves number (status.Form kind line rule) old new = new ≡ old
-DrillingLeaves number (status.Rules kind row rule) old new = new ≡ old
-DrillingLeaves number (status.Rejected clause row) old new = new ≡ old
-DrillingLeaves number (status.Unruly line) old new = new ≡ old
-DrillingLeaves number (status.Unsettled arc prio) old new = new ≡ old
-DrillingLeaves number status.NoArc old new = new ≡ old
+DrillingLeaves number _ old new = new ≡ old
 
 -- ---- what is due
 

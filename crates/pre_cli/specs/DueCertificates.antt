@@ -18,7 +18,8 @@ use Rattle.pre_cli.specs.declared.statuses.Status.{Status}
 use Rattle.pre_cli.specs.declared.statuses.Status.TheVariants as status
 use Rattle.pre_cli.specs.Answers.{Outside}
 use Rattle.pre_cli.specs.Due.{TellsFiles, GivesUp}
-use Rattle.pre_cli.specs.Certifying.{pair_network, pair_streams, text_named, IsNetIn, AreStreamsIn, NetRefused, StreamsRefused, HasCertificate, HasNone, IsAnswerTo, CertifyingCause}
+use Rattle.pre_cli.specs.Files.{pair_network, pair_streams, text_named, IsNetIn, AreStreamsIn, NetRefused, StreamsRefused}
+use Rattle.pre_cli.specs.Certifying.{HasCertificate, HasNone, IsAnswerTo, CertifyingCause}
 
 -- ---- answers
 

@@ -17,7 +17,8 @@ use Rattle.pre_certify.specs.Text.{certificate_text}
 use Rattle.pre_cli.specs.declared.statuses.FileWord.TheVariants as file
 use Rattle.pre_cli.specs.declared.statuses.Status.{Status}
 use Rattle.pre_cli.specs.declared.statuses.Status.TheVariants as status
-use Rattle.pre_cli.specs.Certifying.{pair_network, pair_streams, text_named, IsFileIn, IsLongFile, IsNetIn, NetRefused, AreStreamsIn, StreamsRefused, TakesFlushed}
+use Rattle.pre_cli.specs.Files.{pair_network, pair_streams, text_named, IsFileIn, IsLongFile, IsNetIn, NetRefused, AreStreamsIn, StreamsRefused}
+use Rattle.pre_cli.specs.Certifying.{TakesFlushed}
 use Rattle.pre_cli.specs.Readings.{Reading, then_read, tested, IsTextAnswer}
 use Rattle.pre_cli.specs.Words.{JudgeWords}
 

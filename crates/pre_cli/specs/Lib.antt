@@ -8,6 +8,7 @@ pub mod Due
 pub mod PacketFiles
 pub mod Listing
 pub mod Listed
+pub mod Files
 pub mod Certifying
 pub mod Readings
 pub mod Putting
@@ -20,5 +21,7 @@ pub mod DueCertificates
 pub mod Dissecting
 pub mod Sums
 pub mod Drilling
+pub mod Outcomes
+pub mod Admitting
 pub mod Capturing
 pub mod Commands

@@ -26,12 +26,6 @@ GivesLine result old new place octets before after =
 
 -- ---- the octets of a file
 
--- nothing more is taken, and all is flushed where that was done
-abbrev pub IsFlushed : Status → Option Taken → Option Taken → Type 0
-IsFlushed status.Done old new = WhereTold old new (λ a b. (b.octets ≡ a.octets) × (b.flushed ≡ true))
-IsFlushed status.WriteFault old new = WhereTold old new (λ a b. b.octets ≡ a.octets)
-IsFlushed _ old new = ⊥
-
 -- why the octets of a file that isn't too long came to this
 abbrev pub ListedCause : Status → List ℕ → ℕ → ℕ → Type 0
 ListedCause status.Done octets before now = fault_in (arrivals_of octets) ≡ None
@@ -65,19 +59,12 @@ IsFileCause _ name before now old new = ⊥
 
 -- the cause of each answer; want of memory is free
 abbrev pub ListingCause : Status → List ℕ → Outside → Type 0
-ListingCause status.Words name o = ⊥
-ListingCause (status.Rejected clause row) name o = ⊥
-ListingCause (status.Unruly line) name o = ⊥
-ListingCause (status.Unsettled arc prio) name o = ⊥
-ListingCause status.NoArc name o = ⊥
-ListingCause (status.Alias arc ordinal) name o = ⊥
-ListingCause (status.Rules kind row rule) name o = ⊥
-ListingCause (status.Unfit unfit) name o = ⊥
 ListingCause status.ReadFault name o = IsMissing o.told_before name ⊎ Rose o.shelf_before o.shelf_after
 ListingCause (status.Form kind line rule) name o = (kind ≡ file.Mpackets) × WhereTold o.told_before o.told_after (HasPackets name (Some (line, rule)))
 ListingCause status.WriteFault name o = Rose o.sink_before o.sink_after × WhereTold o.told_before o.told_after (HasPackets name None)
 ListingCause status.Done name o = WhereTold o.told_before o.told_after (HasPackets name None)
 ListingCause status.Memory name o = Unit {0}
+ListingCause _ name o = ⊥
 
 -- What the sink took, by the answer: all of the listing, flushed; a front of it; or nothing.
 abbrev pub ListingLeaves : Status → List ℕ → Outside → Option Taken → Option Taken → Type 0

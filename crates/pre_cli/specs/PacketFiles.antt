@@ -1,7 +1,8 @@
 -- The arrivals that a file of mPackets spells, or its first fault.
-use Rattle.std.specs.Prelude.{◌≡◌, ◌⊎◌, ℕ, ◌<◌, ◌≤◌, ◌==◌, Bool, false, List, [], ◌∷◌, ◌++◌, length, Option, Some, None, Result, Ok, Err, if◌then◌else◌, ⊤}
+use Rattle.std.specs.Prelude.{◌≡◌, ◌⊎◌, ℕ, ◌<◌, ◌≤◌, ◌==◌, Bool, false, List, [], ◌∷◌, ◌++◌, length, Option}
+use Rattle.std.specs.Prelude.{Some, None, Result, Ok, Err, if◌then◌else◌, ⊤}
 use Rattle.pre_text.specs.Lines.{numbered_lines, words_of}
-use Rattle.pre_text.specs.Words.{pairs_within}
+use Rattle.pre_text.specs.Words.{is_comment, pairs_within}
 use Rattle.pre_cli.specs.declared.packet_files.PacketFault.{PacketFault}
 use Rattle.pre_cli.specs.declared.packet_files.PacketFault.TheVariants.{Line, Memory}
 use Rattle.pre_cli.specs.Scripts.{max_file}
@@ -9,11 +10,6 @@ use Rattle.pre_cli.specs.Scripts.{max_file}
 -- the greatest length of an arrival, in octets
 abbrev pub max_arrival : ℕ
 max_arrival = 4096
-
--- a comment begins with #
-abbrev pub is_comment : List ℕ → Bool
-is_comment [] = false
-is_comment (c ∷ cs) = c == 35
 
 -- the arrivals with one more, where the line's one word spells it
 abbrev pub with_arrival : List (List ℕ) → ℕ → Option (List ℕ) → List (List ℕ) → Result (List (List ℕ)) ℕ

@@ -7,7 +7,7 @@ use Rattle.pre_base.specs.Sinks.{Taken}
 use Rattle.pre_cli.specs.declared.statuses.Status.{Status}
 use Rattle.pre_cli.specs.declared.statuses.Status.TheVariants as status
 use Rattle.pre_cli.specs.Answers.{Outside}
-use Rattle.pre_cli.specs.Certifying.{OfFiles, GoneFrom}
+use Rattle.pre_cli.specs.Files.{OfFiles, GoneFrom}
 use Rattle.pre_cli.specs.Due.{TellsFiles, GivesUp}
 
 -- ---- readings

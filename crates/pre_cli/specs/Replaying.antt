@@ -16,7 +16,7 @@ use Rattle.pre_cli.specs.declared.statuses.FileWord.TheVariants as file
 use Rattle.pre_cli.specs.declared.statuses.Status.{Status}
 use Rattle.pre_cli.specs.declared.statuses.Status.TheVariants as status
 use Rattle.pre_cli.specs.Answers.{Outside}
-use Rattle.pre_cli.specs.Certifying.{IsFileIn, IsLongFile}
+use Rattle.pre_cli.specs.Files.{IsFileIn, IsLongFile}
 use Rattle.pre_cli.specs.Curves.{CurvesHold, IsUnruly}
 use Rattle.pre_cli.specs.Headline.{Headline}
 use Rattle.pre_cli.specs.Judging.{judging}

@@ -30,15 +30,7 @@ RunEnds w status.Done old new = WhereTold old new (TakesTrace w)
 RunEnds w (status.Alias arc ordinal) old new = WhereTold old new (TakesTraceBefore w arc.0 ordinal)
 RunEnds w status.WriteFault old new = WhereTold old new (TakesTextFront w)
 RunEnds w status.Memory old new = new ≡ old
-RunEnds w status.Words old new = ⊥
-RunEnds w (status.Rejected clause row) old new = ⊥
-RunEnds w (status.Unruly line) old new = ⊥
-RunEnds w (status.Unsettled arc prio) old new = ⊥
-RunEnds w status.NoArc old new = ⊥
-RunEnds w status.ReadFault old new = ⊥
-RunEnds w (status.Rules kind row rule) old new = ⊥
-RunEnds w (status.Unfit cause) old new = ⊥
-RunEnds w (status.Form kind line rule) old new = ⊥
+RunEnds w _ old new = ⊥
 
 -- The cause of the status, and the sink's count of faults before and after, which rose where writing failed.
 abbrev pub RunCause : Scenario → Status → ℕ → ℕ → Type 0
@@ -46,15 +38,7 @@ RunCause w status.WriteFault before now = (before ≤ now) × Rose before now
 RunCause w status.Done before now = (before ≤ now) × HasHistory w
 RunCause w (status.Alias arc ordinal) before now = (before ≤ now) × IsFirstAlias w arc.0 ordinal
 RunCause w status.Memory before now = before ≤ now
-RunCause w status.Words before now = ⊥
-RunCause w (status.Rejected clause row) before now = ⊥
-RunCause w (status.Unruly line) before now = ⊥
-RunCause w (status.Unsettled arc prio) before now = ⊥
-RunCause w status.NoArc before now = ⊥
-RunCause w status.ReadFault before now = ⊥
-RunCause w (status.Rules kind row rule) before now = ⊥
-RunCause w (status.Unfit cause) before now = ⊥
-RunCause w (status.Form kind line rule) before now = ⊥
+RunCause w _ before now = ⊥
 
 -- Nothing more is taken. The status given is the answer where all is flushed; else the sink failed.
 abbrev pub FlushEnds : Status → Status → Option Taken → Option Taken → ℕ → ℕ → Type 0

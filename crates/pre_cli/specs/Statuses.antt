@@ -14,11 +14,8 @@ use Rattle.pre_cli.specs.declared.statuses.Status.TheVariants as status
 
 -- want of memory is no cause of its own
 abbrev pub unfit_number : Unfit → ℕ
-unfit_number (unfit.Overload arc) = 6
-unfit_number (unfit.Cycle arcs) = 6
-unfit_number (unfit.Large arc prio) = 6
-unfit_number (unfit.Ring arc prio need) = 6
 unfit_number unfit.Memory = 10
+unfit_number _ = 6
 
 abbrev pub number_of : Status → ℕ
 number_of status.Done = 0
@@ -42,6 +39,8 @@ file_word file.Cert = codes "cert"
 file_word file.Script = codes "script"
 file_word file.Mpackets = codes "mpackets"
 file_word file.Pcap = codes "pcap"
+file_word file.Trace = codes "trace"
+file_word file.More = codes "more"
 
 -- a number behind a space
 abbrev pub behind_space : ℕ → List ℕ
@@ -60,17 +59,25 @@ row_words (place.Flow i) = codes " flow" ++ behind_space i
 abbrev pub arc_numbers : List ArcId → List ℕ
 arc_numbers arcs = flat_map (λ arc. behind_space arc.0) arcs
 
--- why there is no certificate: arcs, a priority and the room that a ring needs
+-- why there is no certificate, behind a space: arcs, a priority and the room that a ring needs
+abbrev pub unfit_words : Unfit → List ℕ
+unfit_words (unfit.Overload arc) = codes " overload" ++ behind_space arc.0
+unfit_words (unfit.Cycle arcs) = codes " cycle" ++ arc_numbers arcs
+unfit_words (unfit.Large arc prio) = codes " large" ++ (behind_space arc.0 ++ behind_space prio)
+unfit_words (unfit.Ring arc prio need) = codes " ring" ++ (behind_space arc.0 ++ (behind_space prio ++ behind_space need))
+unfit_words unfit.Memory = codes " memory"
+
+-- and as a whole text, where want of memory is no cause
 abbrev pub unfit_text : Unfit → List ℕ
-unfit_text (unfit.Overload arc) = codes "unfit overload" ++ behind_space arc.0
-unfit_text (unfit.Cycle arcs) = codes "unfit cycle" ++ arc_numbers arcs
-unfit_text (unfit.Large arc prio) = codes "unfit large" ++ (behind_space arc.0 ++ behind_space prio)
-unfit_text (unfit.Ring arc prio need) = codes "unfit ring" ++ (behind_space arc.0 ++ (behind_space prio ++ behind_space need))
+unfit_text (unfit.Overload arc) = codes "unfit" ++ unfit_words (unfit.Overload arc)
+unfit_text (unfit.Cycle arcs) = codes "unfit" ++ unfit_words (unfit.Cycle arcs)
+unfit_text (unfit.Large arc prio) = codes "unfit" ++ unfit_words (unfit.Large arc prio)
+unfit_text (unfit.Ring arc prio need) = codes "unfit" ++ unfit_words (unfit.Ring arc prio need)
 unfit_text unfit.Memory = codes "memory"
 
 -- the answer for wrong words
 unfoldable pub usage : List ℕ
-usage = codes "usage: preempt certify, judge, migrate, replay, mpackets, drill, capture or dissect"
+usage = codes "usage: preempt certify, judge, migrate, replay, mpackets, drill, admit, capture or dissect"
 
 abbrev pub text_of : Status → List ℕ
 text_of status.Done = []

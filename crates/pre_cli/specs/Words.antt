@@ -27,3 +27,12 @@ pub record CaptureWords : Type 0 where
 
 abbrev pub capture_words : List ℕ → List ℕ → List ℕ → List ℕ → CaptureWords
 capture_words net streams script arc = record { net = net; streams = streams; script = script; arc = arc }
+
+-- the words for the network, the streams and the file of more streams
+pub record AdmitWords : Type 0 where
+  pub net : List ℕ
+  pub streams : List ℕ
+  pub more : List ℕ
+
+abbrev pub admit_words : List ℕ → List ℕ → List ℕ → AdmitWords
+admit_words net streams more = record { net = net; streams = streams; more = more }

@@ -3,15 +3,17 @@ ghost use Rattle.pre_base.specs.Told.{WhereTold};
 ghost use Rattle.pre_sim.specs.Reach.{AllFit};
 ghost use Rattle.pre_sim.specs.Steps.{StepCause};
 ghost use Rattle.pre_streams.specs.Fits.{Fits};
+ghost use Rattle.pre_cli.specs.Answers.{outside};
 ghost use Rattle.pre_cli.specs.Capturing.{watched_in, sent_in, capturing, CapturingCause, CapturingLeaves, CaptureLeaves, CaptureEnds};
-ghost use Rattle.pre_cli.specs.Certifying.{OfFiles};
+ghost use Rattle.pre_cli.specs.Files.{OfFiles};
 ghost use Rattle.pre_cli.specs.Readings.{Instead};
 ghost use Rattle.pre_cli.specs.Runs.{RunComesTo, RunCause};
 ghost use Rattle.pre_cli.specs.Words.{capture_words};
 
 use crate::Status;
-use crate::certifying::{network_named, streams_named};
-use crate::replays::{flushed, run_on, script_in};
+use crate::files::{network_named, streams_named};
+use crate::flushing::flushed;
+use crate::replays::{run_on, script_in};
 use pre_base::{ArcId, Shelf, Sink};
 use pre_dissect::CaptureWatcher;
 use pre_pcap::put_header;
@@ -171,27 +173,9 @@ pub(crate) fn capture_files<H: Shelf, S: Sink>(
     sink: &mut S,
 ) -> Status
     ensures cause { CapturingCause (capture_words net_word.now streams_word.now script_word.now arc_word.now) result
-        (record {
-          shelf_before = H.faults shelf.old;
-          shelf_after = H.faults shelf.new;
-          sink_before = S.faults sink.old;
-          sink_after = S.faults sink.new;
-          told_before = H.tells shelf.old;
-          told_after = H.tells shelf.new;
-          taken_before = S.tells sink.old;
-          taken_after = S.tells sink.new;
-        }) }
+        (outside H.faults H.tells shelf.old shelf.new S.faults S.tells sink.old sink.new) }
     ensures leaves { CapturingLeaves (capture_words net_word.now streams_word.now script_word.now arc_word.now) result
-        (record {
-          shelf_before = H.faults shelf.old;
-          shelf_after = H.faults shelf.new;
-          sink_before = S.faults sink.old;
-          sink_after = S.faults sink.new;
-          told_before = H.tells shelf.old;
-          told_after = H.tells shelf.new;
-          taken_before = S.tells sink.old;
-          taken_after = S.tells sink.new;
-        }) }
+        (outside H.faults H.tells shelf.old shelf.new S.faults S.tells sink.old sink.new) }
     ensures shelf_later { H.faults shelf.old ≤ H.faults shelf.new }
     ensures sink_later { S.faults sink.old ≤ S.faults sink.new }
 {

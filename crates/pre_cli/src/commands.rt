@@ -27,6 +27,12 @@ pub(crate) enum Asked<'a> {
         streams: &'a str,
         certificate: &'a str,
     },
+    /// `admit NET STREAMS MORE`
+    Admits {
+        net: &'a str,
+        streams: &'a str,
+        more: &'a str,
+    },
     /// `replay NET STREAMS CERT SCRIPT`
     Replays {
         net: &'a str,
@@ -87,6 +93,9 @@ pub(crate) fn command_of(words: &[String]) -> Asked<'_>
             streams,
             certificate,
         },
+        [command, net, streams, more] if command.as_str() == "admit" => {
+            Asked::Admits { net, streams, more }
+        }
         [command, net, streams, certificate, script] if command.as_str() == "replay" => {
             Asked::Replays {
                 net,

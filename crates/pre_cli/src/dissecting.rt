@@ -1,10 +1,11 @@
 ghost use Rattle.std.specs.Prelude.{◌≡◌, ◌≤◌, IfOk, IfErr};
 ghost use Rattle.pre_base.specs.Told.{WhereTold};
-ghost use Rattle.pre_cli.specs.Certifying.{OfFiles, IsFileIn};
+ghost use Rattle.pre_cli.specs.Answers.{outside};
+ghost use Rattle.pre_cli.specs.Files.{OfFiles, IsFileIn};
 ghost use Rattle.pre_cli.specs.Dissecting as dissecting;
 ghost use Rattle.pre_cli.specs.Dissecting.{DissectedCause, DissectedLeaves, IsUnread, DissectingCause, DissectingLeaves};
 
-use crate::replays::flushed;
+use crate::flushing::flushed;
 use crate::{FileWord, Status};
 use pre_base::{ReadError, Shelf, Sink, read_whole};
 use pre_dissect::{DissectFault, dissect};
@@ -62,27 +63,9 @@ pub(crate) fn dissect_file<H: Shelf, S: Sink>(
     sink: &mut S,
 ) -> Status
     ensures cause { DissectingCause result name.now
-        (record {
-          shelf_before = H.faults shelf.old;
-          shelf_after = H.faults shelf.new;
-          sink_before = S.faults sink.old;
-          sink_after = S.faults sink.new;
-          told_before = H.tells shelf.old;
-          told_after = H.tells shelf.new;
-          taken_before = S.tells sink.old;
-          taken_after = S.tells sink.new;
-        }) }
+        (outside H.faults H.tells shelf.old shelf.new S.faults S.tells sink.old sink.new) }
     ensures leaves { DissectingLeaves result name.now
-        (record {
-          shelf_before = H.faults shelf.old;
-          shelf_after = H.faults shelf.new;
-          sink_before = S.faults sink.old;
-          sink_after = S.faults sink.new;
-          told_before = H.tells shelf.old;
-          told_after = H.tells shelf.new;
-          taken_before = S.tells sink.old;
-          taken_after = S.tells sink.new;
-        }) }
+        (outside H.faults H.tells shelf.old shelf.new S.faults S.tells sink.old sink.new) }
     ensures shelf_later { H.faults shelf.old ≤ H.faults shelf.new }
     ensures sink_later { S.faults sink.old ≤ S.faults sink.new }
 {

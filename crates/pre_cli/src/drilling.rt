@@ -11,7 +11,7 @@ ghost use Rattle.pre_cli.specs.Sums.{HasSummed};
 
 use crate::Status;
 use crate::certifying::unfit_status;
-use crate::listings::flushed;
+use crate::flushing::flushed;
 use crate::replays::{makes_a_run, run_on};
 use pre_base::Sink;
 use pre_bound::Certificate;
@@ -74,7 +74,7 @@ fn put_drilled<S: Sink>(
     network_law();
     let bounds = certificate.bounds.as_slice();
     match put_summary(number, net, streams, bounds, summary, sink) {
-        Ok(()) => flushed(sink),
+        Ok(()) => flushed(sink, Status::Done),
         Err(_) => Status::WriteFault,
     }
 }

@@ -4,15 +4,16 @@ ghost use Rattle.pre_streams.specs.Fits.{Fits};
 ghost use Rattle.pre_bound.specs.Listed.{GoodCertificate};
 ghost use Rattle.pre_check.specs.Lines.{HasRows};
 ghost use Rattle.pre_certify.specs.Text.{certificate_text};
-ghost use Rattle.pre_cli.specs.Certifying.{OfFiles, InPlace, IsNoFile};
+ghost use Rattle.pre_cli.specs.Answers.{outside};
+ghost use Rattle.pre_cli.specs.Files.{OfFiles, InPlace, IsNoFile};
 ghost use Rattle.pre_cli.specs.Readings.{Instead, AnswerCause, AnswerLeaves};
 ghost use Rattle.pre_cli.specs.Judging.{IsCertificateIn, CertificateRefused, good_certificate_in, certified_in, judging, accepted_text, Accepts, AcceptsFront, Migrates, MigratesFront};
 ghost use Rattle.pre_cli.specs.Words.{judge_words};
 ghost use Rattle.pre_cli.specs.Judging as judging_words;
 ghost use Rattle.pre_cli.specs.Putting.{PutEnds, PutCause};
 
-use crate::certifying::{file_text, network_named, streams_named};
-use crate::listings::flushed;
+use crate::files::{file_text, network_named, streams_named};
+use crate::flushing::flushed;
 use crate::{FileWord, Status};
 use pre_base::{Shelf, Sink, write_all};
 use pre_bound::Certificate;
@@ -84,9 +85,9 @@ fn good_certificate_in<H: Shelf>(
 
 /// Streams and a good certificate for them.
 #[derive(Drop)]
-pub(crate) struct Certified {
-    pub(crate) streams: Streams,
-    pub(crate) certificate: Certificate,
+pub struct Certified {
+    pub streams: Streams,
+    pub certificate: Certificate,
 }
 
 /// The streams and the good certificate that two words stand for, for this network, or the answer in their place.
@@ -117,13 +118,13 @@ pub(crate) fn certified_named<H: Shelf>(
 
 /// A network, and what is certified over it.
 #[derive(Drop)]
-pub(crate) struct Judged {
+pub struct Judged {
     pub net: Network,
     pub certified: Certified,
 }
 
 /// The network, the streams and the good certificate that three words stand for, or the answer in their place.
-pub(crate) fn judged_named<H: Shelf>(
+pub fn judged_named<H: Shelf>(
     alloc: Global,
     net_word: &str,
     streams_word: &str,
@@ -153,7 +154,7 @@ fn put_accepted<S: Sink>(sink: &mut S) -> Status
     ensures cause { PutCause result (S.faults sink.old) (S.faults sink.new) }
 {
     match write_all(sink, b"accepted\n") {
-        Ok(()) => flushed(sink),
+        Ok(()) => flushed(sink, Status::Done),
         Err(_) => Status::WriteFault,
     }
 }
@@ -169,7 +170,7 @@ fn put_migrated<S: Sink>(
     ensures cause { PutCause result (S.faults sink.old) (S.faults sink.new) }
 {
     match put_certificate(certificate, net, streams, sink) {
-        Ok(()) => flushed(sink),
+        Ok(()) => flushed(sink, Status::Done),
         Err(_) => Status::WriteFault,
     }
 }
@@ -185,27 +186,9 @@ pub(crate) fn judge_files<H: Shelf, S: Sink>(
     sink: &mut S,
 ) -> Status
     ensures cause { AnswerCause (judging (judge_words net_word.now streams_word.now certificate_word.now)) result
-        (record {
-          shelf_before = H.faults shelf.old;
-          shelf_after = H.faults shelf.new;
-          sink_before = S.faults sink.old;
-          sink_after = S.faults sink.new;
-          told_before = H.tells shelf.old;
-          told_after = H.tells shelf.new;
-          taken_before = S.tells sink.old;
-          taken_after = S.tells sink.new;
-        }) }
+        (outside H.faults H.tells shelf.old shelf.new S.faults S.tells sink.old sink.new) }
     ensures leaves { AnswerLeaves (judging (judge_words net_word.now streams_word.now certificate_word.now)) Accepts AcceptsFront result
-        (record {
-          shelf_before = H.faults shelf.old;
-          shelf_after = H.faults shelf.new;
-          sink_before = S.faults sink.old;
-          sink_after = S.faults sink.new;
-          told_before = H.tells shelf.old;
-          told_after = H.tells shelf.new;
-          taken_before = S.tells sink.old;
-          taken_after = S.tells sink.new;
-        }) }
+        (outside H.faults H.tells shelf.old shelf.new S.faults S.tells sink.old sink.new) }
     ensures shelf_later { H.faults shelf.old ≤ H.faults shelf.new }
     ensures sink_later { S.faults sink.old ≤ S.faults sink.new }
 {
@@ -225,27 +208,9 @@ pub(crate) fn migrate_files<H: Shelf, S: Sink>(
     sink: &mut S,
 ) -> Status
     ensures cause { AnswerCause (judging (judge_words net_word.now streams_word.now certificate_word.now)) result
-        (record {
-          shelf_before = H.faults shelf.old;
-          shelf_after = H.faults shelf.new;
-          sink_before = S.faults sink.old;
-          sink_after = S.faults sink.new;
-          told_before = H.tells shelf.old;
-          told_after = H.tells shelf.new;
-          taken_before = S.tells sink.old;
-          taken_after = S.tells sink.new;
-        }) }
+        (outside H.faults H.tells shelf.old shelf.new S.faults S.tells sink.old sink.new) }
     ensures leaves { AnswerLeaves (judging (judge_words net_word.now streams_word.now certificate_word.now)) Migrates MigratesFront result
-        (record {
-          shelf_before = H.faults shelf.old;
-          shelf_after = H.faults shelf.new;
-          sink_before = S.faults sink.old;
-          sink_after = S.faults sink.new;
-          told_before = H.tells shelf.old;
-          told_after = H.tells shelf.new;
-          taken_before = S.tells sink.old;
-          taken_after = S.tells sink.new;
-        }) }
+        (outside H.faults H.tells shelf.old shelf.new S.faults S.tells sink.old sink.new) }
     ensures shelf_later { H.faults shelf.old ≤ H.faults shelf.new }
     ensures sink_later { S.faults sink.old ≤ S.faults sink.new }
 {

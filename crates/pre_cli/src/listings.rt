@@ -8,9 +8,11 @@ ghost use Rattle.pre_mpacket.specs.Spelling as spelling;
 ghost use Rattle.pre_trace.specs.Text.{kind_word};
 ghost use Rattle.pre_receive.specs.Takings as takings;
 ghost use Rattle.pre_receive.specs.Receivers as receivers;
+ghost use Rattle.pre_cli.specs.Answers.{outside};
 ghost use Rattle.pre_cli.specs.Listing.{cause_word, taking_words, packet_words, packet_line, TakesListAll};
-ghost use Rattle.pre_cli.specs.Listed.{GivesLine, ListedCause, ListedLeaves, ListingCause, ListingLeaves, IsPacketFile, IsFileCause, IsFlushed};
+ghost use Rattle.pre_cli.specs.Listed.{GivesLine, ListedCause, ListedLeaves, ListingCause, ListingLeaves, IsPacketFile, IsFileCause};
 
+use crate::flushing::flushed;
 use crate::packet_files::{PacketFault, read_packets};
 use crate::{FileWord, Status};
 use pre_base::{Failed, Items, ReadError, Shelf, Sink, read_whole};
@@ -114,18 +116,6 @@ fn put_listing<S: Sink>(
     Ok(())
 }
 
-/// Passes on what was written.
-pub(crate) fn flushed<S: Sink>(sink: &mut S) -> Status
-    ensures ends { IsFlushed result (S.tells sink.old) (S.tells sink.new) }
-    ensures cause { result ≡ Status.WriteFault → Rose (S.faults sink.old) (S.faults sink.new) }
-    ensures later { S.faults sink.old ≤ S.faults sink.new }
-{
-    match sink.flush() {
-        Ok(()) => Status::Done,
-        Err(_) => Status::WriteFault,
-    }
-}
-
 // Lists the arrivals that the octets of a file spell.
 fn list_octets<S: Sink>(alloc: Global, octets: &[u8], sink: &mut S) -> Status
     ensures cause { ListedCause result octets.now (S.faults sink.old) (S.faults sink.new) }
@@ -147,7 +137,7 @@ fn list_octets<S: Sink>(alloc: Global, octets: &[u8], sink: &mut S) -> Status
         return Status::Memory;
     };
     match put_listing(&mut receiver, arrivals.as_slice(), sink) {
-        Ok(()) => flushed(sink),
+        Ok(()) => flushed(sink, Status::Done),
         Err(_) => Status::WriteFault,
     }
 }
@@ -180,27 +170,9 @@ pub(crate) fn list_file<H: Shelf, S: Sink>(
     sink: &mut S,
 ) -> Status
     ensures cause { ListingCause result name.now
-        (record {
-          shelf_before = H.faults shelf.old;
-          shelf_after = H.faults shelf.new;
-          sink_before = S.faults sink.old;
-          sink_after = S.faults sink.new;
-          told_before = H.tells shelf.old;
-          told_after = H.tells shelf.new;
-          taken_before = S.tells sink.old;
-          taken_after = S.tells sink.new;
-        }) }
+        (outside H.faults H.tells shelf.old shelf.new S.faults S.tells sink.old sink.new) }
     ensures leaves { ListingLeaves result name.now
-        (record {
-          shelf_before = H.faults shelf.old;
-          shelf_after = H.faults shelf.new;
-          sink_before = S.faults sink.old;
-          sink_after = S.faults sink.new;
-          told_before = H.tells shelf.old;
-          told_after = H.tells shelf.new;
-          taken_before = S.tells sink.old;
-          taken_after = S.tells sink.new;
-        }) (S.tells sink.old) (S.tells sink.new) }
+        (outside H.faults H.tells shelf.old shelf.new S.faults S.tells sink.old sink.new) (S.tells sink.old) (S.tells sink.new) }
     ensures shelf_later { H.faults shelf.old ≤ H.faults shelf.new }
     ensures sink_later { S.faults sink.old ≤ S.faults sink.new }
 {

@@ -1,9 +1,9 @@
 ghost use Rattle.std.specs.Prelude.{◌≡◌, Option, None, Some, Ok, IfOk};
 ghost use Rattle.pre_text.specs.Words.{pairs_within};
-ghost use Rattle.pre_cli.specs.PacketFiles.{ReadsAs, LineReadsAs, after_line, arrivals_of, is_comment, max_arrival};
+ghost use Rattle.pre_cli.specs.PacketFiles.{ReadsAs, LineReadsAs, after_line, arrivals_of, max_arrival};
 
 use pre_base::Items;
-use pre_text::{Line, LineWords, Lines, hex_pairs};
+use pre_text::{Line, LineWords, Lines, hex_pairs, starts_comment};
 use std::alloc::{AllocError, Global};
 
 /// The most octets that a line may spell.
@@ -54,15 +54,6 @@ fn read_line(alloc: Global, found: &mut Items<Items<u8>>, line: &Line) -> Result
             Ok(()) => Ok(()),
             Err(_) => Err(PacketFault::Memory),
         },
-    }
-}
-
-fn starts_comment(word: &[u8]) -> bool
-    ensures { result ≡ is_comment word.now }
-{
-    match word {
-        [b'#', ..] => true,
-        _ => false,
     }
 }
 

@@ -1,7 +1,9 @@
 ghost use Rattle.std.specs.Prelude.{◌≡◌, ◌≤◌, map, string_bytes};
+ghost use Rattle.pre_cli.specs.Answers.{outside};
 ghost use Rattle.pre_cli.specs.Commands.{CauseOf, LeavesOf};
 
 use crate::Status;
+use crate::admitting::admit_files;
 use crate::capturing::capture_files;
 use crate::certifying::certify_files;
 use crate::commands::{Asked, command_of};
@@ -15,7 +17,9 @@ use std::alloc::Global;
 
 /// Does the command that the words say, over the shelf's files, and writes what it gives to the sink. `certify NET STREAMS`
 /// writes the least certificate of the streams over the network; `judge NET STREAMS CERT` writes `accepted` where the
-/// certificate is good for them, and `migrate NET STREAMS CERT` writes it anew; `replay NET STREAMS CERT SCRIPT` runs the
+/// certificate is good for them, and `migrate NET STREAMS CERT` writes it anew; `admit NET STREAMS MORE` admits the streams
+/// of the third file one after the other to those of the second one, and writes what came of each and the certificate of those
+/// that are held then; `replay NET STREAMS CERT SCRIPT` runs the
 /// script over these, where the certificate is good and the sends keep to their curves, and writes the trace; `mpackets FILE`
 /// writes a line for each mPacket of the file, with what it gives to one receiver; `drill N` makes the large plant of the
 /// number N, certifies it, runs its script and writes the summary of the run; `capture NET STREAMS SCRIPT ARC` runs the script
@@ -27,7 +31,8 @@ use std::alloc::Global;
 /// text and nothing else, flushed. Of `replay` that is the text of a legal history of what the four texts say to run, of which
 /// the headline holds: under a good certificate express frames arrive within their printed bounds, queues stay within their
 /// printed sizes, each delivery is a frame that was sent, octet for octet, and none is delivered twice. Of `mpackets` it is
-/// the listing, of `certify` the text of a certificate that is good and least, of `migrate` that of the one that was read, and
+/// the listing, of `certify` the text of a certificate that is good and least, of `admit` a line for each stream and then
+/// such a text, of `migrate` that of the one that was read, and
 /// of `capture` the capture of the arc in a legal history. On Alias it took the text or the capture of the history before that
 /// arrival, flushed. Where writing failed, the sink took a front
 /// of such a text, and else nothing.
@@ -38,27 +43,9 @@ pub fn preempt<H: Shelf, S: Sink>(
     sink: &mut S,
 ) -> Status
     ensures cause { CauseOf result (map string_bytes words.now)
-        (record {
-          shelf_before = H.faults shelf.old;
-          shelf_after = H.faults shelf.new;
-          sink_before = S.faults sink.old;
-          sink_after = S.faults sink.new;
-          told_before = H.tells shelf.old;
-          told_after = H.tells shelf.new;
-          taken_before = S.tells sink.old;
-          taken_after = S.tells sink.new;
-        }) }
+        (outside H.faults H.tells shelf.old shelf.new S.faults S.tells sink.old sink.new) }
     ensures leaves { LeavesOf result (map string_bytes words.now)
-        (record {
-          shelf_before = H.faults shelf.old;
-          shelf_after = H.faults shelf.new;
-          sink_before = S.faults sink.old;
-          sink_after = S.faults sink.new;
-          told_before = H.tells shelf.old;
-          told_after = H.tells shelf.new;
-          taken_before = S.tells sink.old;
-          taken_after = S.tells sink.new;
-        }) }
+        (outside H.faults H.tells shelf.old shelf.new S.faults S.tells sink.old sink.new) }
     ensures shelf_later { H.faults shelf.old ≤ H.faults shelf.new }
     ensures sink_later { S.faults sink.old ≤ S.faults sink.new }
 {
@@ -75,6 +62,9 @@ pub fn preempt<H: Shelf, S: Sink>(
             streams,
             certificate,
         } => migrate_files(alloc, net, streams, certificate, shelf, sink),
+        Asked::Admits { net, streams, more } => {
+            admit_files(alloc, net, streams, more, shelf, sink)
+        }
         Asked::Replays {
             net,
             streams,

@@ -2,7 +2,7 @@ ghost use Rattle.std.specs.Prelude.{◌≡◌, ◌++◌, codes};
 ghost use Rattle.pre_base.specs.Faults.{HasCause};
 ghost use Rattle.pre_base.specs.Told.{WhereTold};
 ghost use Rattle.pre_base.specs.Sinks.{TakesAll};
-ghost use Rattle.pre_cli.specs.Statuses.{file_word, behind_space, row_words, arc_numbers, unfit_text};
+ghost use Rattle.pre_cli.specs.Statuses.{file_word, behind_space, row_words, arc_numbers, unfit_words, unfit_text};
 
 use crate::FileWord;
 use crate::statuses::{put_behind_space, put_place};
@@ -19,11 +19,13 @@ fn rules_word(file: FileWord) -> &'static [u8]
         FileWord::Script => b"rules script",
         FileWord::Mpackets => b"rules mpackets",
         FileWord::Pcap => b"rules pcap",
+        FileWord::Trace => b"rules trace",
+        FileWord::More => b"rules more",
     }
 }
 
-// Writes a word and a number behind it.
-fn put_numbered<S: Sink>(sink: &mut S, word: &[u8], number: u64) -> Result<(), Failed>
+/// Writes a word and a number behind it.
+pub(crate) fn put_numbered<S: Sink>(sink: &mut S, word: &[u8], number: u64) -> Result<(), Failed>
     ensures octets { WhereTold (S.tells sink.old) (S.tells sink.new) (TakesAll result (word.now ++ behind_space number)) }
     ensures cause { HasCause (S.faults sink.old) (S.faults sink.new) result }
 {
@@ -78,18 +80,18 @@ fn put_arcs<S: Sink>(sink: &mut S, arcs: &[ArcId]) -> Result<(), Failed>
 }
 
 fn put_cycle<S: Sink>(sink: &mut S, arcs: &[ArcId]) -> Result<(), Failed>
-    ensures octets { WhereTold (S.tells sink.old) (S.tells sink.new) (TakesAll result (codes "unfit cycle" ++ arc_numbers arcs.now)) }
+    ensures octets { WhereTold (S.tells sink.old) (S.tells sink.new) (TakesAll result (codes " cycle" ++ arc_numbers arcs.now)) }
     ensures cause { HasCause (S.faults sink.old) (S.faults sink.new) result }
 {
-    write_all(sink, b"unfit cycle")?;
+    write_all(sink, b" cycle")?;
     put_arcs(sink, arcs)
 }
 
 fn put_large<S: Sink>(sink: &mut S, arc: u64, prio: u64) -> Result<(), Failed>
-    ensures octets { WhereTold (S.tells sink.old) (S.tells sink.new) (TakesAll result (codes "unfit large" ++ (behind_space arc ++ behind_space prio))) }
+    ensures octets { WhereTold (S.tells sink.old) (S.tells sink.new) (TakesAll result (codes " large" ++ (behind_space arc ++ behind_space prio))) }
     ensures cause { HasCause (S.faults sink.old) (S.faults sink.new) result }
 {
-    write_all(sink, b"unfit large")?;
+    write_all(sink, b" large")?;
     put_place(sink, arc, prio)
 }
 
@@ -102,26 +104,53 @@ fn put_port_need<S: Sink>(sink: &mut S, arc: u64, prio: u64, need: u64) -> Resul
 }
 
 fn put_ring<S: Sink>(sink: &mut S, arc: u64, prio: u64, need: u64) -> Result<(), Failed>
-    ensures octets { WhereTold (S.tells sink.old) (S.tells sink.new) (TakesAll result (codes "unfit ring" ++ (behind_space arc ++ (behind_space prio ++ behind_space need)))) }
+    ensures octets { WhereTold (S.tells sink.old) (S.tells sink.new) (TakesAll result (codes " ring" ++ (behind_space arc ++ (behind_space prio ++ behind_space need)))) }
     ensures cause { HasCause (S.faults sink.old) (S.faults sink.new) result }
 {
-    write_all(sink, b"unfit ring")?;
+    write_all(sink, b" ring")?;
     put_port_need(sink, arc, prio, need)
 }
 
-/// Writes why there is no certificate.
-pub(crate) fn put_unfit<S: Sink>(sink: &mut S, cause: &Unfit) -> Result<(), Failed>
-    ensures octets { WhereTold (S.tells sink.old) (S.tells sink.new) (TakesAll result (unfit_text cause.now)) }
+/// Writes why there is no certificate, behind a space.
+pub(crate) fn put_unfit_words<S: Sink>(sink: &mut S, cause: &Unfit) -> Result<(), Failed>
+    ensures octets { WhereTold (S.tells sink.old) (S.tells sink.new) (TakesAll result (unfit_words cause.now)) }
     ensures cause { HasCause (S.faults sink.old) (S.faults sink.new) result }
 {
     match cause {
-        Unfit::Overload { arc } => put_numbered(sink, b"unfit overload", arc.0 as u64),
+        Unfit::Overload { arc } => put_numbered(sink, b" overload", arc.0 as u64),
         Unfit::Cycle { arcs } => put_cycle(sink, arcs.as_slice()),
         Unfit::Large { arc, prio } => put_large(sink, arc.0 as u64, prio.number() as u64),
         Unfit::Ring { arc, prio, need } => {
             put_ring(sink, arc.0 as u64, prio.number() as u64, *need)
         }
+        Unfit::Memory => write_all(sink, b" memory"),
+    }
+}
+
+/// Writes that there is no certificate, and why.
+fn put_why_unfit<S: Sink>(sink: &mut S, cause: &Unfit) -> Result<(), Failed>
+    ensures octets { WhereTold (S.tells sink.old) (S.tells sink.new) (TakesAll result (codes "unfit" ++ unfit_words cause.now)) }
+    ensures cause { HasCause (S.faults sink.old) (S.faults sink.new) result }
+{
+    write_all(sink, b"unfit")?;
+    put_unfit_words(sink, cause)
+}
+
+/// Writes a refusal of the certifier.
+pub(crate) fn put_unfit<S: Sink>(sink: &mut S, cause: &Unfit) -> Result<(), Failed>
+    ensures octets { WhereTold (S.tells sink.old) (S.tells sink.new) (TakesAll result (unfit_text cause.now)) }
+    ensures cause { HasCause (S.faults sink.old) (S.faults sink.new) result }
+{
+    match cause {
         Unfit::Memory => write_all(sink, b"memory"),
+        Unfit::Overload { arc: _ } => put_why_unfit(sink, cause),
+        Unfit::Cycle { arcs: _ } => put_why_unfit(sink, cause),
+        Unfit::Large { arc: _, prio: _ } => put_why_unfit(sink, cause),
+        Unfit::Ring {
+            arc: _,
+            prio: _,
+            need: _,
+        } => put_why_unfit(sink, cause),
     }
 }
 

@@ -6,16 +6,18 @@ ghost use Rattle.pre_script.specs.Fits as lines;
 ghost use Rattle.pre_streams.specs.Fits as rows;
 ghost use Rattle.pre_sim.specs.Reach.{AllFit};
 ghost use Rattle.pre_sim.specs.Steps.{StepTells, StepCause};
-ghost use Rattle.pre_cli.specs.Certifying.{OfFiles, InPlace, IsNoFile};
+ghost use Rattle.pre_cli.specs.Answers.{outside};
+ghost use Rattle.pre_cli.specs.Files.{OfFiles, InPlace, IsNoFile};
 ghost use Rattle.pre_cli.specs.Curves.{CurvesHold, LinesRise};
 ghost use Rattle.pre_cli.specs.Readings.{Instead};
 ghost use Rattle.pre_cli.specs.Replaying.{scripted_in, replaying, IsScriptIn, ScriptRefused, ReplayingCause, ReplayingLeaves};
 ghost use Rattle.pre_cli.specs.Replaying as replaying;
-ghost use Rattle.pre_cli.specs.Runs.{RunComesTo, RunLeaves, RunEnds, RunCause, FlushEnds};
+ghost use Rattle.pre_cli.specs.Runs.{RunComesTo, RunLeaves, RunEnds, RunCause};
 ghost use Rattle.pre_cli.specs.Words.{replay_words};
 
-use crate::certifying::file_text;
 use crate::curves::{prios_below, unruly_line};
+use crate::files::file_text;
+use crate::flushing::flushed;
 use crate::judging::{Judged, judged_named};
 use crate::{FileWord, Status};
 use pre_base::{Shelf, Sink};
@@ -64,16 +66,6 @@ pub(crate) fn run<S: Sink>(
     let mut sim = Sim::make(alloc, net, streams, script)?;
     let mut watcher = TraceWatcher::over(sink, net);
     Ok(run_on(&mut sim, &mut watcher))
-}
-
-/// Passes on what was written: the status given, or that the sink failed.
-pub(crate) fn flushed<S: Sink>(sink: &mut S, status: Status) -> Status
-    ensures { FlushEnds status result (S.tells sink.old) (S.tells sink.new) (S.faults sink.old) (S.faults sink.new) }
-{
-    match sink.flush() {
-        Ok(()) => status,
-        Err(_) => Status::WriteFault,
-    }
 }
 
 /// Runs the script and writes its trace: what that came to.
@@ -153,7 +145,8 @@ fn scripted_named<H: Shelf>(
     ensures good { IfOk result (λ x. GoodCertificate x.judged.net x.judged.certified.streams x.judged.certified.certificate) }
     ensures rise { IfOk result (λ x. LinesRise x.script.sends) }
     ensures scripted { IfOk result (λ x. WhereTold (H.tells shelf.old) (H.tells shelf.new)
-        (OfFiles ((scripted_in (replay_words net_word.now streams_word.now certificate_word.now script_word.now)).gives ((x.judged.net, (x.judged.certified.streams, x.judged.certified.certificate)), x.script)))) }
+        (OfFiles ((scripted_in (replay_words net_word.now streams_word.now certificate_word.now script_word.now)).gives
+        ((x.judged.net, (x.judged.certified.streams, x.judged.certified.certificate)), x.script)))) }
     ensures cause { IfErr result (λ s. Instead (scripted_in (replay_words net_word.now streams_word.now certificate_word.now script_word.now)) s
         (H.faults shelf.old) (H.faults shelf.new) (H.tells shelf.old) (H.tells shelf.new)) }
     ensures later { H.faults shelf.old ≤ H.faults shelf.new }
@@ -186,7 +179,8 @@ fn input_named<H: Shelf>(
     ensures good { IfOk result (λ x. GoodCertificate x.judged.net x.judged.certified.streams x.judged.certified.certificate) }
     ensures curves { IfOk result (λ x. CurvesHold x.judged.certified.streams.rows x.script.sends) }
     ensures input { IfOk result (λ x. WhereTold (H.tells shelf.old) (H.tells shelf.new)
-        (OfFiles ((replaying (replay_words net_word.now streams_word.now certificate_word.now script_word.now)).gives ((x.judged.net, (x.judged.certified.streams, x.judged.certified.certificate)), x.script)))) }
+        (OfFiles ((replaying (replay_words net_word.now streams_word.now certificate_word.now script_word.now)).gives
+        ((x.judged.net, (x.judged.certified.streams, x.judged.certified.certificate)), x.script)))) }
     ensures cause { IfErr result (λ s. Instead (replaying (replay_words net_word.now streams_word.now certificate_word.now script_word.now)) s
         (H.faults shelf.old) (H.faults shelf.new) (H.tells shelf.old) (H.tells shelf.new)) }
     ensures later { H.faults shelf.old ≤ H.faults shelf.new }
@@ -234,27 +228,9 @@ pub(crate) fn replay_files<H: Shelf, S: Sink>(
     sink: &mut S,
 ) -> Status
     ensures cause { ReplayingCause (replay_words net_word.now streams_word.now certificate_word.now script_word.now) result
-        (record {
-          shelf_before = H.faults shelf.old;
-          shelf_after = H.faults shelf.new;
-          sink_before = S.faults sink.old;
-          sink_after = S.faults sink.new;
-          told_before = H.tells shelf.old;
-          told_after = H.tells shelf.new;
-          taken_before = S.tells sink.old;
-          taken_after = S.tells sink.new;
-        }) }
+        (outside H.faults H.tells shelf.old shelf.new S.faults S.tells sink.old sink.new) }
     ensures leaves { ReplayingLeaves (replay_words net_word.now streams_word.now certificate_word.now script_word.now) result
-        (record {
-          shelf_before = H.faults shelf.old;
-          shelf_after = H.faults shelf.new;
-          sink_before = S.faults sink.old;
-          sink_after = S.faults sink.new;
-          told_before = H.tells shelf.old;
-          told_after = H.tells shelf.new;
-          taken_before = S.tells sink.old;
-          taken_after = S.tells sink.new;
-        }) }
+        (outside H.faults H.tells shelf.old shelf.new S.faults S.tells sink.old sink.new) }
     ensures shelf_later { H.faults shelf.old ≤ H.faults shelf.new }
     ensures sink_later { S.faults sink.old ≤ S.faults sink.new }
 {

@@ -18,6 +18,8 @@ pub enum FileWord {
     Script,
     Mpackets,
     Pcap,
+    Trace,
+    More,
 }
 
 /// What a command came to.
@@ -105,6 +107,8 @@ fn form_word(file: FileWord) -> &'static [u8]
         FileWord::Script => b"form script",
         FileWord::Mpackets => b"form mpackets",
         FileWord::Pcap => b"form pcap",
+        FileWord::Trace => b"form trace",
+        FileWord::More => b"form more",
     }
 }
 
@@ -139,7 +143,7 @@ fn put_usage<S: Sink>(sink: &mut S) -> Result<(), Failed>
 {
     write_all(
         sink,
-        b"usage: preempt certify, judge, migrate, replay, mpackets, drill, capture or dissect",
+        b"usage: preempt certify, judge, migrate, replay, mpackets, drill, admit, capture or dissect",
     )
 }
 

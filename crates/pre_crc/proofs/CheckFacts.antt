@@ -1,5 +1,6 @@
 -- How long checks are, of which octets they consist, and that two checks differ.
-use Rattle.std.proofs.Common.{◌≡◌, ◌≢◌, ℕ, zero, suc, ◌*◌, ◌^◌, ◌<◌, Bool, true, false, List, [], ◌∷◌, All, take, drop, map, not, slice_index, ap, arith, lit<, length, refl}
+use Rattle.std.proofs.Common.{◌≡◌, ◌≢◌, ℕ, zero, suc, ◌*◌, ◌^◌, ◌<◌, Bool, true, false, List, [], ◌∷◌, All, take}
+use Rattle.std.proofs.Common.{drop, map, not, slice_index, ap, arith, lit<, length, refl}
 use Rattle.std.proofs.lemmas.List.Elements.{All-cons, All-nil}
 use native.Mathlib.Nat.{pow-suc}
 use Rattle.pre_crc.specs.Checks.{number_of, octets_of, check_remainder, Fcs, Mcrc}

@@ -1,5 +1,7 @@
 -- The register takes in octets as division does.
-use Rattle.std.proofs.Common.{◌≡◌, ℕ, zero, suc, ◌+◌, ◌*◌, ◌/◌, ◌%◌, ◌^◌, ◌<◌, ◌≤◌, ◌==◌, Bool, true, false, not, cond, List, [], ◌∷◌, ◌++◌, map, length, replicate, refl, sym, ap, ap₂, ◌∙◌, arith, append_assoc, append-nil, lit<, get_or, take, drop, subst, drop-cons}
+use Rattle.std.proofs.Common.{◌≡◌, ℕ, zero, suc, ◌+◌, ◌*◌, ◌/◌, ◌%◌, ◌^◌, ◌<◌, ◌≤◌, ◌==◌, Bool, true, false, not, cond, List, []}
+use Rattle.std.proofs.Common.{◌∷◌, ◌++◌, map, length, replicate, refl, sym, ap, ap₂, ◌∙◌, arith, append_assoc, append-nil, lit<, get_or, take, drop, subst}
+use Rattle.std.proofs.Common.{drop-cons}
 use Rattle.std.specs.Prelude.{bit_xor}
 use Rattle.std.specs.Int.{w32, to_le_bytes, bit_not}
 use Rattle.std.proofs.lemmas.List.{take_more, drop_all}
@@ -127,11 +129,9 @@ turns-less n left x e = ap (λ k. turns k x) e
 -- ---- the running check
 
 pub Stands-from : (s : Running) (octets : List ℕ) → IsRegister s.register octets → Stands s octets
-unfolding Stands
 Stands-from s octets h = h
 
 pub Stands-register : (s : Running) (octets : List ℕ) → Stands s octets → IsRegister s.register octets
-unfolding Stands
 Stands-register s octets h = h
 
 -- none is left
@@ -167,7 +167,6 @@ IsRegister-taken r before (o ∷ octets) hr h held =
 
 pub Stands-taken : (s t : Running) (before octets : List ℕ) → s.register < 2 ^ 32 → ((i : ℕ) → get_or octets i 0 < 256)
     → t.register ≡ taken_in s.register octets → Stands s before → Stands t (before ++ octets)
-unfolding Stands
 Stands-taken s t before octets hs h e held = subst (λ r. IsRegister r (before ++ octets)) (sym e) (IsRegister-taken s.register before octets hs h held)
 
 taken_in-cons : (r o : ℕ) (octets : List ℕ) → taken_in r (o ∷ octets) ≡ taken_in (turns 8 (bit_xor r o)) octets

@@ -1,6 +1,8 @@
 -- Sixty-four turns at once, and as many after sixty-four, by sixteen tables: what is turned out of an exclusive or is the exclusive or of what is turned
 -- out of each part.
-use Rattle.std.proofs.Common.{◌≡◌, ℕ, zero, suc, ◌+◌, ◌-◌, ◌*◌, ◌/◌, ◌%◌, ◌^◌, ◌<◌, ◌≤◌, ◌==◌, Bool, true, false, List, [], ◌∷◌, length, map, get_or, take, drop, take_all, refl, sym, ap, ap₂, ◌∙◌, arith, lit<, mod-lt}
+use Rattle.std.proofs.Common.{◌≡◌, ℕ, zero, suc, ◌+◌, ◌-◌, ◌*◌, ◌/◌, ◌%◌, ◌^◌, ◌<◌, ◌≤◌, ◌==◌, Bool}
+use Rattle.std.proofs.Common.{true, false, List, [], ◌∷◌, length, map, get_or, take, drop, take_all, refl, sym, ap, ap₂, ◌∙◌, arith}
+use Rattle.std.proofs.Common.{lit<, mod-lt}
 use native.Mathlib.Nat.{div-div-eq-div-mul}
 use Rattle.std.specs.Prelude.{bit_xor}
 use Rattle.std.specs.Int.{w64, from_le_bytes, to_le_bytes}
@@ -8,7 +10,9 @@ use Rattle.std.proofs.lemmas.List.{get_or-map}
 use lib.Bits.{xor_zero_r, xor_comm, xor_assoc, xor_shifted}
 use Rattle.pre_crc.specs.Division.{add_bits}
 use Rattle.pre_crc.specs.Register.{turn, turns, taken_in}
-use Rattle.pre_crc.specs.declared.tables.TheConstants.{AFTER_ONE, AFTER_TWO, AFTER_THREE, AFTER_FOUR, AFTER_FIVE, AFTER_SIX, AFTER_SEVEN, AFTER_EIGHT, AFTER_NINE, AFTER_TEN, AFTER_ELEVEN, AFTER_TWELVE, AFTER_THIRTEEN, AFTER_FOURTEEN, AFTER_FIFTEEN, AFTER_SIXTEEN}
+use Rattle.pre_crc.specs.declared.tables.TheConstants.{AFTER_ONE, AFTER_TWO, AFTER_THREE, AFTER_FOUR, AFTER_FIVE, AFTER_SIX, AFTER_SEVEN}
+use Rattle.pre_crc.specs.declared.tables.TheConstants.{AFTER_EIGHT, AFTER_NINE, AFTER_TEN, AFTER_ELEVEN, AFTER_TWELVE, AFTER_THIRTEEN}
+use Rattle.pre_crc.specs.declared.tables.TheConstants.{AFTER_FOURTEEN, AFTER_FIFTEEN, AFTER_SIXTEEN}
 use Rattle.pre_crc.proofs.Registers.{tail_number, settle_number, turn-settle, turn-xor}
 use Rattle.pre_crc.proofs.Table.{AFTER_ONE-at, turns-shifted, turns-octet}
 
@@ -289,6 +293,17 @@ leftward a b c d e f g h =
     ∙ xor_assoc (bit_xor a b) c (bit_xor d (bit_xor e (bit_xor f (bit_xor g h))))
     ∙ xor_assoc a b (bit_xor c (bit_xor d (bit_xor e (bit_xor f (bit_xor g h)))))
 
+-- and the other way round
+rightward : (a b c d e f g h : ℕ) → bit_xor (bit_xor (bit_xor (bit_xor (bit_xor (bit_xor (bit_xor h g) f) e) d) c) b) a ≡ bit_xor a (bit_xor b (bit_xor c (bit_xor d (bit_xor e (bit_xor f (bit_xor g h))))))
+rightward a b c d e f g h =
+    xor_comm (bit_xor (bit_xor (bit_xor (bit_xor (bit_xor (bit_xor h g) f) e) d) c) b) a
+    ∙ ap (bit_xor a) (xor_comm (bit_xor (bit_xor (bit_xor (bit_xor (bit_xor h g) f) e) d) c) b
+    ∙ ap (bit_xor b) (xor_comm (bit_xor (bit_xor (bit_xor (bit_xor h g) f) e) d) c
+    ∙ ap (bit_xor c) (xor_comm (bit_xor (bit_xor (bit_xor h g) f) e) d
+    ∙ ap (bit_xor d) (xor_comm (bit_xor (bit_xor h g) f) e
+    ∙ ap (bit_xor e) (xor_comm (bit_xor h g) f
+    ∙ ap (bit_xor f) (xor_comm h g))))))
+
 below : (z m : ℕ) → z / m % 256 < 256
 below z m = mod-lt (z / m) (lit< tt)
 
@@ -312,7 +327,7 @@ eight_looked_up z bytes wide bs =
 
 -- the same with eight octets after them
 pub sixteen_looked_up : (z : ℕ) (bytes : List ℕ) → z < 2 ^ 64 → bytes ≡ to_le_bytes w64 z
-    → bit_xor (bit_xor (bit_xor (bit_xor (bit_xor (bit_xor (bit_xor (get_or AFTER_SIXTEEN (get_or bytes 0 0) 0) (get_or AFTER_FIFTEEN (get_or bytes 1 0) 0)) (get_or AFTER_FOURTEEN (get_or bytes 2 0) 0)) (get_or AFTER_THIRTEEN (get_or bytes 3 0) 0)) (get_or AFTER_TWELVE (get_or bytes 4 0) 0)) (get_or AFTER_ELEVEN (get_or bytes 5 0) 0)) (get_or AFTER_TEN (get_or bytes 6 0) 0)) (get_or AFTER_NINE (get_or bytes 7 0) 0) ≡ turns 128 z
+    → bit_xor (bit_xor (bit_xor (bit_xor (bit_xor (bit_xor (bit_xor (get_or AFTER_NINE (get_or bytes 7 0) 0) (get_or AFTER_TEN (get_or bytes 6 0) 0)) (get_or AFTER_ELEVEN (get_or bytes 5 0) 0)) (get_or AFTER_TWELVE (get_or bytes 4 0) 0)) (get_or AFTER_THIRTEEN (get_or bytes 3 0) 0)) (get_or AFTER_FOURTEEN (get_or bytes 2 0) 0)) (get_or AFTER_FIFTEEN (get_or bytes 1 0) 0)) (get_or AFTER_SIXTEEN (get_or bytes 0 0) 0) ≡ turns 128 z
 sixteen_looked_up z bytes wide bs =
     let a = AFTER_SIXTEEN-at (z % 256) (mod-lt z (lit< tt)) in
     let b = AFTER_FIFTEEN-at (z / 256 % 256) (below z 256) in
@@ -323,8 +338,8 @@ sixteen_looked_up z bytes wide bs =
     let g = AFTER_TEN-at (z / 256 ^ 6 % 256) (below z (256 ^ 6)) in
     let h = AFTER_NINE-at (z / 256 ^ 7 % 256) (below z (256 ^ 7)) in
     rw bs (
-    ap₂ bit_xor (ap₂ bit_xor (ap₂ bit_xor (ap₂ bit_xor (ap₂ bit_xor (ap₂ bit_xor (ap₂ bit_xor a b) c) d) e) f) g) h
-    ∙ leftward (turns 128 (z % 256)) (turns 120 (z / 256 % 256)) (turns 112 (z / 256 ^ 2 % 256)) (turns 104 (z / 256 ^ 3 % 256)) (turns 96 (z / 256 ^ 4 % 256)) (turns 88 (z / 256 ^ 5 % 256)) (turns 80 (z / 256 ^ 6 % 256)) (turns 72 (z / 256 ^ 7 % 256))
+    ap₂ bit_xor (ap₂ bit_xor (ap₂ bit_xor (ap₂ bit_xor (ap₂ bit_xor (ap₂ bit_xor (ap₂ bit_xor h g) f) e) d) c) b) a
+    ∙ rightward (turns 128 (z % 256)) (turns 120 (z / 256 % 256)) (turns 112 (z / 256 ^ 2 % 256)) (turns 104 (z / 256 ^ 3 % 256)) (turns 96 (z / 256 ^ 4 % 256)) (turns 88 (z / 256 ^ 5 % 256)) (turns 80 (z / 256 ^ 6 % 256)) (turns 72 (z / 256 ^ 7 % 256))
     ∙ sym (sixteen_peeled z wide)
     )
 
@@ -337,10 +352,11 @@ eight_taken_in r os long octets =
 
 -- and eight more after them
 pub sixteen_taken_in : (r : ℕ) (first last : List ℕ) → length first ≡ 8 → ((i : ℕ) → get_or first i 0 < 256) → length last ≡ 8 → ((i : ℕ) → get_or last i 0 < 256)
-    → bit_xor (turns 128 (bit_xor r (from_le_bytes w64 first))) (turns 64 (from_le_bytes w64 last)) ≡ taken_in (taken_in r first) last
+    → bit_xor (turns 64 (from_le_bytes w64 last)) (turns 128 (bit_xor r (from_le_bytes w64 first))) ≡ taken_in (taken_in r first) last
 sixteen_taken_in r first last long octets as_long more =
     let word : ℕ = bit_xor r (from_le_bytes w64 first) in
-    ap (λ x. bit_xor x (turns 64 (from_le_bytes w64 last))) (turns-add 64 64 word)
+    xor_comm (turns 64 (from_le_bytes w64 last)) (turns 128 word)
+    ∙ ap (λ x. bit_xor x (turns 64 (from_le_bytes w64 last))) (turns-add 64 64 word)
     ∙ sym (turns-both 64 (turns 64 word) (from_le_bytes w64 last))
     ∙ ap (λ x. turns 64 (bit_xor x (from_le_bytes w64 last))) (eight_taken_in r first long octets)
     ∙ eight_taken_in (taken_in r first) last as_long more

@@ -1,5 +1,6 @@
 -- Eight turns at once, by a table of what they make of each octet.
-use Rattle.std.proofs.Common.{◌≡◌, ℕ, zero, suc, ◌*◌, ◌/◌, ◌%◌, ◌^◌, ◌<◌, ◌==◌, Bool, true, false, List, [], ◌∷◌, ◌++◌, replicate, map, get_or, refl, sym, ap, ap₂, ◌∙◌, arith, mod-lt, lit<}
+use Rattle.std.proofs.Common.{◌≡◌, ℕ, zero, suc, ◌*◌, ◌/◌, ◌%◌, ◌^◌, ◌<◌, ◌==◌, Bool, true, false, List, []}
+use Rattle.std.proofs.Common.{◌∷◌, ◌++◌, replicate, map, get_or, refl, sym, ap, ap₂, ◌∙◌, arith, mod-lt, lit<}
 use Rattle.std.specs.Prelude.{bit_xor, bit_and}
 use Rattle.std.specs.List.{range_with_len}
 use Rattle.std.proofs.lemmas.List.FromFn.{get_or-map-range_with_len}

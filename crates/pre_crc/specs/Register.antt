@@ -28,5 +28,5 @@ abbrev pub IsRegister : ℕ → List ℕ → Type 0
 IsRegister register octets = low_bits 32 register ≡ check_remainder octets
 
 -- the running check stands for these octets
-unfoldable pub Stands : Running → List ℕ → Type 0
+abbrev pub Stands : Running → List ℕ → Type 0
 Stands running octets = IsRegister running.register octets

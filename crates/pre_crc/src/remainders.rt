@@ -40,8 +40,8 @@ fn with_sixteens(before: u32, octets: &[u8]) -> (u32, &[u8])
 fn with_sixteen(register: u32, first: &[u8; 8], last: &[u8; 8]) -> u32
     ensures { result ≡ taken_in (taken_in register first.now) last.now }
 {
-    after_sixteen(u64::from(register) ^ u64::from_le_bytes(*first))
-        ^ after_eight(u64::from_le_bytes(*last))
+    after_eight(u64::from_le_bytes(*last))
+        ^ after_sixteen(u64::from(register) ^ u64::from_le_bytes(*first))
 }
 
 // What the octets of this word leave behind themselves and eight more: each is looked up in the table of what it leaves
@@ -50,14 +50,14 @@ fn after_sixteen(word: u64) -> u32
     ensures { result ≡ turns 128 word }
 {
     let [a, b, c, d, e, f, g, h] = word.to_le_bytes();
-    AFTER_SIXTEEN[a as usize]
-        ^ AFTER_FIFTEEN[b as usize]
-        ^ AFTER_FOURTEEN[c as usize]
-        ^ AFTER_THIRTEEN[d as usize]
-        ^ AFTER_TWELVE[e as usize]
-        ^ AFTER_ELEVEN[f as usize]
+    AFTER_NINE[h as usize]
         ^ AFTER_TEN[g as usize]
-        ^ AFTER_NINE[h as usize]
+        ^ AFTER_ELEVEN[f as usize]
+        ^ AFTER_TWELVE[e as usize]
+        ^ AFTER_THIRTEEN[d as usize]
+        ^ AFTER_FOURTEEN[c as usize]
+        ^ AFTER_FIFTEEN[b as usize]
+        ^ AFTER_SIXTEEN[a as usize]
 }
 
 // What the octets of this word leave behind themselves.

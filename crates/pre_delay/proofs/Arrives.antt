@@ -1,5 +1,6 @@
 -- A spared frame of an express priority is delivered, where the run goes on long enough.
-use Rattle.std.proofs.Common.{ℕ, zero, suc, true, false, ◌==◌, ◌≡◌, ◌≢◌, ◌+◌, ◌-◌, ◌*◌, ◌<◌, ◌≤◌, List, [], ◌∷◌, length, map, refl, sym, ◌∙◌, ap, inl, inr, arith, subst, Some, None, get_or}
+use Rattle.std.proofs.Common.{ℕ, zero, suc, true, false, ◌==◌, ◌≡◌, ◌≢◌, ◌+◌, ◌-◌, ◌*◌, ◌<◌, ◌≤◌, List, []}
+use Rattle.std.proofs.Common.{◌∷◌, length, map, refl, sym, ◌∙◌, ap, inl, inr, arith, subst, Some, None, get_or}
 use Rattle.std.specs.Prelude.{slice_get, if◌then◌else◌, AllPairs, option_and_then, unwrap_or}
 use Rattle.std.proofs.Math.Nat.{mul-le-mul_right}
 use Rattle.std.proofs.lemmas.Bool.Decides.{nat_tests}

@@ -1,5 +1,7 @@
 -- Where a ring has room for all that comes to it at a tick, all of it enters.
-use Rattle.std.proofs.Common.{ℕ, suc, Bool, true, false, not, ◌==◌, ◌&&◌, nat_le, nat_lt, ◌≡◌, ◌≢◌, ◌+◌, ◌<◌, ◌≤◌, List, [], ◌∷◌, ◌++◌, length, filter, refl, sym, ◌∙◌, ap, inl, inr, arith, map, subst, Option, Some, None, length-append}
+use Rattle.std.proofs.Common.{ℕ, suc, Bool, true, false, not, ◌==◌, ◌&&◌, nat_le, nat_lt, ◌≡◌, ◌≢◌, ◌+◌, ◌<◌, ◌≤◌}
+use Rattle.std.proofs.Common.{List, [], ◌∷◌, ◌++◌, length, filter, refl, sym, ◌∙◌, ap, inl, inr, arith, map, subst, Option, Some, None}
+use Rattle.std.proofs.Common.{length-append}
 use Rattle.std.specs.Prelude.{if◌then◌else◌}
 use Rattle.std.specs.Option.{option_map}
 use Rattle.std.specs.List.{list_any, cons_option}

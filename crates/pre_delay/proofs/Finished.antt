@@ -1,5 +1,6 @@
 -- All of a run is timely, also with its closing events.
-use Rattle.std.proofs.Common.{ℕ, zero, suc, Bool, true, false, cond, List, ◌==◌, ◌&&◌, not, nat_le, nat_lt, ◌≡◌, ◌+◌, ◌<◌, ◌≤◌, [], ◌∷◌, ◌++◌, length, filter, map, refl, sym, ◌∙◌, ap, arith, subst, Option, None}
+use Rattle.std.proofs.Common.{ℕ, zero, suc, Bool, true, false, cond, List, ◌==◌, ◌&&◌, not, nat_le, nat_lt, ◌≡◌, ◌+◌, ◌<◌}
+use Rattle.std.proofs.Common.{◌≤◌, [], ◌∷◌, ◌++◌, length, filter, map, refl, sym, ◌∙◌, ap, arith, subst, Option, None}
 use Rattle.std.specs.Prelude.{slice_get, if◌then◌else◌, All, Any, IsTrue, IsFalse, filter_map, sum_by}
 use Rattle.std.specs.List.{list_any, AllByRecursion as Every}
 use Rattle.std.proofs.lemmas.List.Elements.{filter_map-append}

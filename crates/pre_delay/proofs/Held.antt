@@ -1,5 +1,7 @@
 -- What isn't the port's holds an arc for at most the block of a good certificate.
-use Rattle.std.proofs.Common.{ℕ, suc, ◌==◌, Bool, true, false, min, not, ◌≡◌, ◌≢◌, ◌⊎◌, ◌+◌, ◌-◌, ◌*◌, ◌%◌, ◌<◌, ◌≤◌, max, List, ◌∷◌, length, refl, sym, ◌∙◌, ap, inl, inr, arith, subst, Some, length-append, replicate}
+use Rattle.std.proofs.Common.{ℕ, suc, ◌==◌, Bool, true, false, min, not, ◌≡◌, ◌≢◌, ◌⊎◌, ◌+◌, ◌-◌, ◌*◌, ◌%◌}
+use Rattle.std.proofs.Common.{◌<◌, ◌≤◌, max, List, ◌∷◌, length, refl, sym, ◌∙◌, ap, inl, inr, arith, subst, Some, length-append}
+use Rattle.std.proofs.Common.{replicate}
 use Rattle.std.specs.Prelude.{slice_get, nat_lt, nat_le, ◌&&◌, if◌then◌else◌}
 use Rattle.std.specs.Option.{option_map_or}
 use Rattle.std.proofs.Math.Nat.{mul-le-mul_left, max-le, le-min}

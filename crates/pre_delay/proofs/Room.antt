@@ -1,5 +1,6 @@
 -- What waits at a port of a legal history, and what comes to its ring, have room.
-use Rattle.std.proofs.Common.{ℕ, suc, Bool, true, false, cond, not, ◌==◌, nat_le, ◌≡◌, ◌+◌, ◌-◌, ◌*◌, ◌<◌, ◌≤◌, List, [], ◌∷◌, ◌++◌, length, map, filter, refl, sym, ◌∙◌, ap, arith, subst, Some}
+use Rattle.std.proofs.Common.{ℕ, suc, Bool, true, false, cond, not, ◌==◌, nat_le, ◌≡◌, ◌+◌, ◌-◌, ◌*◌, ◌<◌, ◌≤◌}
+use Rattle.std.proofs.Common.{List, [], ◌∷◌, ◌++◌, length, map, filter, refl, sym, ◌∙◌, ap, arith, subst, Some}
 use Rattle.std.specs.Prelude.{slice_get, sum_by, ◌&&◌, if◌then◌else◌}
 use Rattle.std.specs.List.{AllByRecursion as Every, enumerate_from}
 use Rattle.std.proofs.Math.Nat.{mul-le-mul_right}

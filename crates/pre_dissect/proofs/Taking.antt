@@ -1,5 +1,6 @@
 -- What a capture watcher has taken after one more event.
-use Rattle.std.proofs.Common.{ℕ, ◌≡◌, ◌+◌, ◌*◌, ◌<◌, ◌≤◌, Bool, true, false, List, [], ◌∷◌, ◌++◌, length, refl, sym, ◌∙◌, ap, nat_le, arith, subst, Option, Some, None, filter_map}
+use Rattle.std.proofs.Common.{ℕ, ◌≡◌, ◌+◌, ◌*◌, ◌<◌, ◌≤◌, Bool, true, false, List, [], ◌∷◌, ◌++◌, length, refl}
+use Rattle.std.proofs.Common.{sym, ◌∙◌, ap, nat_le, arith, subst, Option, Some, None, filter_map}
 use Rattle.std.specs.Prelude.{slice_get, unwrap_or}
 use Rattle.pre_base.specs.Last.{last}
 use Rattle.pre_base.specs.Sinks.{Taken}

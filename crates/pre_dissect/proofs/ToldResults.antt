@@ -1,5 +1,6 @@
 -- What a receiver of a capture answers is what the history tells.
-use Rattle.std.proofs.Common.{ℕ, zero, suc, ◌≡◌, ◌+◌, ◌<◌, ◌≤◌, Bool, true, false, List, [], ◌∷◌, length, refl, sym, ◌∙◌, ap, inl, inr, arith, subst, Option, Some, None, filter_map, map}
+use Rattle.std.proofs.Common.{ℕ, zero, suc, ◌≡◌, ◌+◌, ◌<◌, ◌≤◌, Bool, true, false, List, [], ◌∷◌, length, refl, sym}
+use Rattle.std.proofs.Common.{◌∙◌, ap, inl, inr, arith, subst, Option, Some, None, filter_map, map}
 use Rattle.std.specs.Prelude.{◌⊎◌, if◌then◌else◌, slice_get, option_map, codes}
 use Rattle.pre_lldp.specs.LldpLayout.{is_lldp_frame}
 use Rattle.pre_dissect.specs.PacketWords.{result_word}

@@ -31,7 +31,7 @@ end
 ";
 
 /// A stream of priority 7 before one of priority 6.
-const TWO_PRIORITIES: &str = "certificate 2
+pub const TWO_PRIORITIES: &str = "certificate 2
 arc a>b 0 1522
 port a>b 6 143 604 10000 754 84
 port a>b 7 143 520 0 663 526
@@ -89,7 +89,7 @@ pub fn short_before(alloc: Global, max: u16) -> Result<String, AllocError> {
 }
 
 /// Streams that want all of an arc's time.
-const FULL: &str = r#"[[stream]]
+pub const FULL: &str = r#"[[stream]]
 name = "x"
 vid = 1
 prio = 6

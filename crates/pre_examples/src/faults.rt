@@ -3,6 +3,7 @@
 ghost use Rattle.std.specs.Prelude.{◌≡◌, ◌≤◌, None};
 ghost use Rattle.pre_base.specs.Faults.{Rose};
 
+use crate::admissions::slow;
 use crate::captures::CAPTURE;
 use crate::certificates::{PAIR, TWO_HOPS};
 use crate::listings::PACKETS;
@@ -15,23 +16,25 @@ use std::alloc::{AllocError, Global};
 use std::test::Fail;
 
 /// Every command over files, with its own words for them.
-const COMMANDS: [&str; 7] = [
+const COMMANDS: [&str; 8] = [
     "certify net streams",
     "judge net streams cert",
     "migrate net streams cert",
     "replay net streams cert script",
     "mpackets packets",
+    "admit net streams more",
     "capture net streams script m>b",
     "dissect capture",
 ];
 
 /// The same over the built-in network and streams.
-const PAIR_COMMANDS: [&str; 7] = [
+const PAIR_COMMANDS: [&str; 8] = [
     "certify pair pair",
     "judge pair pair pair_cert",
     "migrate pair pair pair_cert",
     "replay pair pair pair_cert script",
     "mpackets packets",
+    "admit pair pair pair_more",
     "capture pair pair script a>b",
     "dissect capture",
 ];
@@ -44,6 +47,10 @@ fn good_files(alloc: Global, fails: &[u64]) -> Result<MemoryShelf, AllocError> {
     let mut shelf = MemoryShelf::make(alloc, fails)?;
     shelf.put("net", BRIDGED.as_bytes())?;
     shelf.put("streams", BY_BRIDGE.as_bytes())?;
+    let more = slow(alloc, "w", 11, "\"b\", \"m\", \"a\"")?;
+    shelf.put("more", more.as_bytes())?;
+    let pair_more = slow(alloc, "w", 11, "\"b\", \"a\"")?;
+    shelf.put("pair_more", pair_more.as_bytes())?;
     shelf.put("cert", TWO_HOPS.as_bytes())?;
     shelf.put("pair_cert", PAIR.as_bytes())?;
     shelf.put("script", b"send 0 x 64\nuntil 5000\n".as_slice())?;

@@ -1,4 +1,4 @@
-ghost use Rattle.std.specs.Prelude.{◌≡◌, ◌↔◌, ℕ, ◌+◌, ◌-◌, ◌%◌, ◌<◌, ◌≤◌, ◌++◌, false, map, drop, length, IfOk, IsOk, IsErr, OnOk, OnErr};
+ghost use Rattle.std.specs.Prelude.{◌≡◌, ◌↔◌, ℕ, ◌+◌, ◌-◌, ◌%◌, ◌<◌, ◌≤◌, ◌++◌, false, map, take, drop, length, IfOk, IsOk, IsErr, OnOk, OnErr};
 ghost use Rattle.std.specs.List.{range_with_len};
 ghost use Rattle.pre_frame.specs.Layout.{IsFrameSize, script_type, address_of, tag_control, header_of, payload_of, with_check, frame_of};
 
@@ -40,6 +40,38 @@ pub fn build(
     let header = header(destination, source, prio, vid);
     put_frame(&mut into[..size], &header, number);
     Ok(size)
+}
+
+/// Writes the octets before the check of the same frame, `size - 4` of them, at the front of `into`, and answers how many they
+/// are; the check isn't worked out. Where `into` is shorter there is no room, and it stays as it was.
+pub fn build_unchecked(
+    into: &mut [u8],
+    destination: NodeId,
+    source: NodeId,
+    prio: Prio,
+    vid: u16,
+    number: FrameNo,
+    size: u16,
+) -> Result<usize, Room>
+    requires size { IsFrameSize size }
+    requires vid { (1 ≤ vid) × (vid ≤ 4094) }
+
+    ensures fits { IsOk result ↔ (size - 4 ≤ length into.old) }
+    ensures room { IsErr result ↔ (length into.old < size - 4) }
+
+    ensures size { IfOk result (λ n. n ≡ size - 4) }
+    ensures frame { OnOk result (with_check (take (size - 4) into.new) ≡ frame_of destination.0 source.0 prio vid number.0 size) }
+    ensures rest { OnOk result (drop (size - 4) into.new ≡ drop (size - 4) into.old) }
+    // Without room nothing is written.
+    ensures kept { OnErr result (into.new ≡ into.old) }
+{
+    let end = usize::from(size) - CHECK;
+    if into.len() < end {
+        return Err(Room);
+    }
+    let header = header(destination, source, prio, vid);
+    put_unchecked(&mut into[..end], &header, number);
+    Ok(end)
 }
 
 // Writes a header, the payload of this number, and the check of both.

@@ -5,7 +5,7 @@ mod building;
 mod laws;
 mod reading;
 
-pub use building::build;
+pub use building::{build, build_unchecked};
 pub use laws::built_law;
 pub use reading::{FrameFault, FrameView, read_frame};
 
@@ -41,6 +41,16 @@ mod tests {
         );
         assert_eq!(rt; size, Err(Room));
         built_law();
+    }
+
+    #[test]
+    fn builds_the_first_without_its_check(rt: HostRuntime) {
+        let mut into = [0xEE; 64];
+        let count = build_unchecked(&mut into, NodeId(1), NodeId(0), Prio(6), 10, FrameNo(0), 64);
+        let mut front = FIRST;
+        front[60..].copy_from_slice(&[0xEE; 4]);
+        assert_eq!(rt; count, Ok(60));
+        assert_eq!(rt; into.as_slice(), front.as_slice());
     }
 
     #[test]

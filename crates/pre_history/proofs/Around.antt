@@ -1,5 +1,7 @@
 -- A legal history around a moment that is named by its tick and phase, and where selected events stand.
-use Rattle.std.proofs.Common.{ℕ, suc, ◌≡◌, ◌⊎◌, ◌==◌, ◌+◌, ◌*◌, ◌<◌, ◌≤◌, Bool, true, false, List, [], ◌∷◌, ◌++◌, length, refl, sym, ◌∙◌, ap, inl, inr, arith, subst, append_assoc, Option, Some, None, filter_map}
+use Rattle.std.proofs.Common.{ℕ, suc, ◌≡◌, ◌⊎◌, ◌==◌, ◌+◌, ◌*◌, ◌<◌, ◌≤◌, Bool, true, false, List, []}
+use Rattle.std.proofs.Common.{◌∷◌, ◌++◌, length, refl, sym, ◌∙◌, ap, inl, inr, arith, subst, append_assoc, Option, Some, None}
+use Rattle.std.proofs.Common.{filter_map}
 use Rattle.std.specs.Prelude.{if◌then◌else◌, slice_get}
 use Rattle.std.proofs.lemmas.Bool.Decides.{nat_tests}
 use Rattle.std.proofs.lemmas.List.Elements.{filter_map-append}

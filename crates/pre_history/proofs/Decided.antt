@@ -1,5 +1,6 @@
 -- What a run tests of a history is decided.
-use Rattle.std.proofs.Common.{ℕ, zero, suc, ◌≡◌, ◌≢◌, ◌⊎◌, ◌+◌, ◌-◌, ◌*◌, ◌<◌, ◌≤◌, List, [], ◌∷◌, refl, sym, inl, inr, arith, subst, Option, Some, None}
+use Rattle.std.proofs.Common.{ℕ, zero, suc, ◌≡◌, ◌≢◌, ◌⊎◌, ◌+◌, ◌-◌, ◌*◌, ◌<◌, ◌≤◌, List, [], ◌∷◌}
+use Rattle.std.proofs.Common.{refl, sym, inl, inr, arith, subst, Option, Some, None}
 use Rattle.std.specs.Prelude.{MatchOption, ⊤, slice_get, Any}
 use Rattle.std.proofs.lemmas.Bool.{cases_lt}
 use Rattle.pre_mpacket.specs.Pieces.{IsBoundary, CutRule, least_fragment}

@@ -1,5 +1,6 @@
 -- Events that no query at a tick reads leave it as it is whether an arc is occupied.
-use Rattle.std.proofs.Common.{ℕ, zero, suc, ◌≡◌, ◌==◌, ◌+◌, ◌*◌, ◌≤◌, ◌<◌, Bool, true, false, List, [], ◌∷◌, ◌++◌, refl, sym, ◌∙◌, ap, inl, inr, arith, subst, Some, None, filter, map, ◌⊎◌}
+use Rattle.std.proofs.Common.{ℕ, zero, suc, ◌≡◌, ◌==◌, ◌+◌, ◌*◌, ◌≤◌, ◌<◌, Bool, true, false, List, [], ◌∷◌}
+use Rattle.std.proofs.Common.{◌++◌, refl, sym, ◌∙◌, ap, inl, inr, arith, subst, Some, None, filter, map, ◌⊎◌}
 use Rattle.std.specs.Prelude.{◌↔◌, if◌then◌else◌, slice_get, MatchOption, ⊤}
 use Rattle.std.specs.List.{AllByRecursion as Every}
 use Rattle.std.proofs.lemmas.List.Elements.{filter_map-append, filter-append}

@@ -1,5 +1,6 @@
 -- The state of an arc of a legal history is decided, and what it has to send for its link.
-use Rattle.std.proofs.Common.{ℕ, zero, suc, ◌≡◌, ◌⊎◌, ◌&&◌, ◌%◌, ◌<◌, ◌≤◌, nat_le, Bool, true, List, length, refl, sym, ◌∙◌, ap, inl, inr, arith, subst, Option, Some, None}
+use Rattle.std.proofs.Common.{ℕ, zero, suc, ◌≡◌, ◌⊎◌, ◌&&◌, ◌%◌, ◌<◌, ◌≤◌, nat_le, Bool, true, List, length, refl}
+use Rattle.std.proofs.Common.{sym, ◌∙◌, ap, inl, inr, arith, subst, Option, Some, None}
 use Rattle.std.specs.Bool.{Decides}
 use Rattle.std.proofs.lemmas.Bool.{and_parts}
 use Rattle.pre_topo.specs.declared.arcs.Mode.{Mode}

@@ -1,5 +1,6 @@
 -- Later events leave what an arc wants to send for its link as it is: responds, verifies and LLDP frames.
-use Rattle.std.proofs.Common.{ℕ, zero, suc, ◌≡◌, ◌⊎◌, ◌<◌, ◌≤◌, ◌+◌, nat_le, List, [], ◌∷◌, ◌++◌, length, sym, ap, inl, inr, arith, subst, Option, Some, None, filter}
+use Rattle.std.proofs.Common.{ℕ, zero, suc, ◌≡◌, ◌⊎◌, ◌<◌, ◌≤◌, ◌+◌, nat_le, List, [], ◌∷◌, ◌++◌, length}
+use Rattle.std.proofs.Common.{sym, ap, inl, inr, arith, subst, Option, Some, None, filter}
 use Rattle.std.specs.Prelude.{◌↔◌, slice_get, option_map, MatchOption}
 use Rattle.std.specs.List.{AllZip}
 use Rattle.std.proofs.lemmas.List.Elements.{filter_map-append}

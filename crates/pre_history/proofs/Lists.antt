@@ -1,5 +1,6 @@
 -- Elements of lists by their places, and of selections.
-use Rattle.std.proofs.Common.{ℕ, zero, suc, ◌≡◌, ◌⊎◌, ◌<◌, Bool, true, false, List, [], ◌∷◌, ◌++◌, length, refl, ap, inl, inr, arith, subst, Option, Some, None, filter, filter_map, ◌∙◌}
+use Rattle.std.proofs.Common.{ℕ, zero, suc, ◌≡◌, ◌⊎◌, ◌<◌, Bool, true, false, List, [], ◌∷◌, ◌++◌, length, refl, ap}
+use Rattle.std.proofs.Common.{inl, inr, arith, subst, Option, Some, None, filter, filter_map, ◌∙◌}
 use Rattle.std.specs.Prelude.{if◌then◌else◌, slice_get, slice_index_or, Any}
 use Rattle.std.specs.List.{AllByRecursion as Every, cons_option}
 

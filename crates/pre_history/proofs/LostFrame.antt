@@ -1,5 +1,6 @@
 -- The history of one express frame that is lost is legal.
-use Rattle.std.proofs.Common.{ℕ, zero, suc, ◌≡◌, ◌≢◌, ◌==◌, ◌+◌, ◌*◌, ◌<◌, nat_le, Bool, true, List, [], ◌∷◌, ◌++◌, length, refl, sym, ◌∙◌, ap, inl, inr, arith, subst, Some, None, false}
+use Rattle.std.proofs.Common.{ℕ, zero, suc, ◌≡◌, ◌≢◌, ◌==◌, ◌+◌, ◌*◌, ◌<◌, nat_le, Bool, true, List, [], ◌∷◌}
+use Rattle.std.proofs.Common.{◌++◌, length, refl, sym, ◌∙◌, ap, inl, inr, arith, subst, Some, None, false}
 use Rattle.std.specs.Prelude.{if◌then◌else◌, slice_get, count_by, option_map, option_and_then}
 use Rattle.std.specs.List.{list_any, AllByRecursion as Every}
 use Rattle.pre_script.specs.declared.scripts.SendLine.{SendLine}

@@ -1,5 +1,7 @@
 -- What the built-in network and streams give to the rules, where the script sends frames of the stream x at tick 0.
-use Rattle.std.proofs.Common.{ℕ, zero, suc, ◌≡◌, ◌≢◌, ◌+◌, ◌*◌, ◌/◌, ◌%◌, ◌-◌, ◌<◌, ◌≤◌, List, [], ◌∷◌, ◌++◌, length, refl, sym, ◌∙◌, ap, arith, subst, Some, map, codes, ◌==◌, ◌&&◌, Bool, true, false, Option, None, filter_map}
+use Rattle.std.proofs.Common.{ℕ, zero, suc, ◌≡◌, ◌≢◌, ◌+◌, ◌*◌, ◌/◌, ◌%◌, ◌-◌, ◌<◌, ◌≤◌, List, [], ◌∷◌}
+use Rattle.std.proofs.Common.{◌++◌, length, refl, sym, ◌∙◌, ap, arith, subst, Some, map, codes, ◌==◌, ◌&&◌, Bool, true, false, Option, None}
+use Rattle.std.proofs.Common.{filter_map}
 use Rattle.std.specs.Prelude.{slice_index_or, slice_get, unwrap_or, if◌then◌else◌, flat_map, option_map, option_and_then}
 use Rattle.pre_topo.specs.declared.arcs.Arc.{Arc}
 use Rattle.pre_topo.specs.declared.arcs.Mode.TheVariants as mode

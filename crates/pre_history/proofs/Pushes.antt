@@ -1,5 +1,6 @@
 -- mPackets stay ordered where one begins, ends or arrives in its turn.
-use Rattle.std.proofs.Common.{ℕ, zero, suc, ◌≡◌, ◌⊎◌, ◌≤◌, ◌<◌, ◌+◌, ◌*◌, List, [], ◌∷◌, ◌++◌, length, sym, ◌∙◌, ap, inl, inr, arith, subst, Some, length-append}
+use Rattle.std.proofs.Common.{ℕ, zero, suc, ◌≡◌, ◌⊎◌, ◌≤◌, ◌<◌, ◌+◌, ◌*◌, List, [], ◌∷◌, ◌++◌, length}
+use Rattle.std.proofs.Common.{sym, ◌∙◌, ap, inl, inr, arith, subst, Some, length-append}
 use Rattle.std.specs.Prelude.{slice_get}
 use Rattle.pre_history.specs.History.{Begin, Ended, Arrive}
 use Rattle.pre_history.specs.Ordered.{AreOrdered}

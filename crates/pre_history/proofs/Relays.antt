@@ -1,5 +1,6 @@
 -- Why a frame comes to a ring: it was sent, or it arrived on the arc before and the latency is over.
-use Rattle.std.proofs.Common.{ℕ, zero, suc, ◌≡◌, ◌==◌, ◌&&◌, ◌+◌, ◌<◌, Bool, true, false, List, [], ◌∷◌, length, refl, sym, ◌∙◌, ap, inl, inr, ◌⊎◌, arith, subst, Option, Some, None, filter_map}
+use Rattle.std.proofs.Common.{ℕ, zero, suc, ◌≡◌, ◌==◌, ◌&&◌, ◌+◌, ◌<◌, Bool, true, false, List, [], ◌∷◌, length}
+use Rattle.std.proofs.Common.{refl, sym, ◌∙◌, ap, inl, inr, ◌⊎◌, arith, subst, Option, Some, None, filter_map}
 use Rattle.std.specs.Prelude.{if◌then◌else◌, slice_get, slice_index_or, flat_map, option_map, option_and_then}
 use Rattle.std.specs.List.{AllByRecursion as Every}
 use Rattle.std.proofs.lemmas.Bool.{and_parts}

@@ -1,5 +1,6 @@
 -- Later events leave what is left of an interrupted frame as it is, and how many first fragments began.
-use Rattle.std.proofs.Common.{ℕ, ◌≡◌, ◌⊎◌, ◌==◌, ◌<◌, ◌≤◌, nat_lt, List, [], ◌∷◌, ◌++◌, refl, sym, ◌∙◌, ap, inl, inr, arith, subst, Option, Some, None, map, filter}
+use Rattle.std.proofs.Common.{ℕ, ◌≡◌, ◌⊎◌, ◌==◌, ◌<◌, ◌≤◌, nat_lt, List, [], ◌∷◌, ◌++◌, refl, sym, ◌∙◌}
+use Rattle.std.proofs.Common.{ap, inl, inr, arith, subst, Option, Some, None, map, filter}
 use Rattle.std.specs.Prelude.{◌↔◌, slice_get, MatchOption}
 use Rattle.std.specs.List.{AllZip, AllByRecursion as Every}
 use Rattle.std.proofs.lemmas.List.Elements.{filter_map-append, filter-append}

@@ -1,5 +1,6 @@
 -- Later events leave the octets of an mPacket and its size as they are.
-use Rattle.std.proofs.Common.{ℕ, suc, ◌≡◌, ◌==◌, ◌&&◌, ◌+◌, ◌-◌, ◌*◌, ◌<◌, ◌≤◌, nat_le, Bool, false, List, ◌++◌, length, refl, sym, ◌∙◌, ap, inl, inr, arith, Some, None, filter_map, take}
+use Rattle.std.proofs.Common.{ℕ, suc, ◌≡◌, ◌==◌, ◌&&◌, ◌+◌, ◌-◌, ◌*◌, ◌<◌, ◌≤◌, nat_le, Bool, false, List}
+use Rattle.std.proofs.Common.{◌++◌, length, refl, sym, ◌∙◌, ap, inl, inr, arith, Some, None, filter_map, take}
 use Rattle.std.specs.Prelude.{if◌then◌else◌, unwrap_or}
 use Rattle.std.specs.List.{AllByRecursion as Every}
 use Rattle.std.proofs.Math.Nat.{mul-le-mul_left}

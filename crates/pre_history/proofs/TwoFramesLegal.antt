@@ -16,7 +16,9 @@ use Rattle.pre_history.proofs.Spelled.{OneSpelled}
 use Rattle.pre_history.proofs.PairFacts.{two_arcs, no_delay, next, idle}
 use Rattle.pre_history.proofs.WholeFrames.{IsFrameAt, OnlyFrames, whole_arrives, no_alias, no_counts_told}
 use Rattle.pre_history.proofs.Quiet.{other_arc, quiet_sets, quiet_expiries, quiet_ends, quiet_arrivals, quiet_entries, quiet_starts, quiet_phase}
-use Rattle.pre_history.proofs.TwoFrames.{both, begun, ended, between, second, second_ended, at, known, size_of, enters_now, first_starts, second_starts, first_ends, second_ends, check_is, arrives, begun_whole, between_whole, second_whole, body_whole, begun_start, between_start, second_waits, body_waits, one_begin, two_begins, one_end, two_ends}
+use Rattle.pre_history.proofs.TwoFrames.{both, begun, ended, between, second, second_ended, at, known, size_of, enters_now, first_starts, second_starts, first_ends, second_ends}
+use Rattle.pre_history.proofs.TwoFrames.{check_is, arrives, begun_whole, between_whole, second_whole, body_whole, begun_start, between_start, second_waits, body_waits, one_begin}
+use Rattle.pre_history.proofs.TwoFrames.{two_begins, one_end, two_ends}
 
 module _ (spelled : OneSpelled) (w : Scenario) (s : SendsTwoFrames w) where
   -- the mPacket with this ordinal gives its frame

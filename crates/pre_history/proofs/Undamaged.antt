@@ -1,5 +1,6 @@
 -- Frames of the script as octets, what is sent of one that goes whole, and what arrives where nothing is lost or damaged.
-use Rattle.std.proofs.Common.{ℕ, zero, suc, ◌≡◌, ◌==◌, ◌+◌, ◌-◌, ◌≤◌, Bool, true, false, List, [], ◌∷◌, ◌++◌, length, take, drop, refl, ◌∙◌, ap, arith, subst, Some, None, map, filter, length-append}
+use Rattle.std.proofs.Common.{ℕ, zero, suc, ◌≡◌, ◌==◌, ◌+◌, ◌-◌, ◌≤◌, Bool, true, false, List, [], ◌∷◌, ◌++◌}
+use Rattle.std.proofs.Common.{length, take, drop, refl, ◌∙◌, ap, arith, subst, Some, None, map, filter, length-append}
 use Rattle.std.specs.Prelude.{slice_get, if◌then◌else◌, option_map, fold}
 use Rattle.std.specs.List.{list_any}
 use Rattle.pre_base.specs.declared.numbers.FrameNo.{FrameNo}

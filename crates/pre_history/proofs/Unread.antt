@@ -1,5 +1,7 @@
 -- Events after the expiries of a tick leave the state of each link at it as it is.
-use Rattle.std.proofs.Common.{ℕ, suc, ◌≡◌, ◌==◌, ◌&&◌, ◌+◌, ◌*◌, ◌%◌, ◌-◌, ◌<◌, ◌≤◌, nat_lt, nat_le, Bool, true, false, List, ◌++◌, length, take, drop, refl, sym, ◌∙◌, ap, inl, inr, arith, subst, Option, Some, None, filter}
+use Rattle.std.proofs.Common.{ℕ, suc, ◌≡◌, ◌==◌, ◌&&◌, ◌+◌, ◌*◌, ◌%◌, ◌-◌, ◌<◌, ◌≤◌, nat_lt, nat_le, Bool}
+use Rattle.std.proofs.Common.{true, false, List, ◌++◌, length, take, drop, refl, sym, ◌∙◌, ap, inl, inr, arith, subst, Option, Some, None}
+use Rattle.std.proofs.Common.{filter}
 use Rattle.std.specs.Prelude.{◌↔◌, if◌then◌else◌, slice_get, option_map, Any}
 use Rattle.std.specs.List.{AllByRecursion as Every}
 use Rattle.std.proofs.Math.Nat.{mul-le-mul_left}

@@ -1,5 +1,6 @@
 -- Which frames come to a ring at a tick, and what becomes of each.
-use Rattle.std.specs.Prelude.{ℕ, zero, suc, ◌+◌, ◌==◌, ◌&&◌, if◌then◌else◌, List, [], ◌∷◌, ◌++◌, length, map, filter_map, flat_map, Option, None, slice_get, option_map, option_and_then, unwrap_or}
+use Rattle.std.specs.Prelude.{ℕ, zero, suc, ◌+◌, ◌==◌, ◌&&◌, if◌then◌else◌, List, [], ◌∷◌, ◌++◌, length, map}
+use Rattle.std.specs.Prelude.{filter_map, flat_map, Option, None, slice_get, option_map, option_and_then, unwrap_or}
 use Rattle.pre_script.specs.declared.scripts.SendLine.{SendLine}
 use Rattle.pre_history.specs.Scenario.{Scenario, row, latency, capacity}
 use Rattle.pre_history.specs.History.{Arrive, Entry, PlainEvent, History}

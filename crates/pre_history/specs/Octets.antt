@@ -1,5 +1,6 @@
 -- The octets of an mPacket: how it was sent, and how it arrives.
-use Rattle.std.specs.Prelude.{ℕ, ◌+◌, ◌-◌, ◌==◌, ◌&&◌, Bool, true, false, if◌then◌else◌, List, [], ◌∷◌, ◌++◌, map, filter, filter_map, fold, take, drop, replicate, bit_xor, Option, None, unwrap_or, option_map}
+use Rattle.std.specs.Prelude.{ℕ, ◌+◌, ◌-◌, ◌==◌, ◌&&◌, Bool, true, false, if◌then◌else◌, List, [], ◌∷◌, ◌++◌}
+use Rattle.std.specs.Prelude.{map, filter, filter_map, fold, take, drop, replicate, bit_xor, Option, None, unwrap_or, option_map}
 use Rattle.std.specs.List.{list_any}
 use Rattle.pre_base.specs.declared.limits.TheConstants.{LEAST_DATA}
 use Rattle.pre_crc.specs.Checks.{Mcrc}

@@ -1,5 +1,7 @@
 -- What is read off a history: each query reads the whole list, at a tick.
-use Rattle.std.specs.Prelude.{ℕ, ◌+◌, ◌-◌, ◌*◌, ◌%◌, ◌<◌, ◌≤◌, ◌≡◌, ◌≢◌, ◌==◌, ◌&&◌, not, nat_lt, nat_le, Bool, List, [], ◌∷◌, ◌++◌, length, map, filter, filter_map, flat_map, take, drop, Any, Option, Some, None, MatchOption, slice_get, option_map, option_and_then, unwrap_or, ⊤}
+use Rattle.std.specs.Prelude.{ℕ, ◌+◌, ◌-◌, ◌*◌, ◌%◌, ◌<◌, ◌≤◌, ◌≡◌, ◌≢◌, ◌==◌, ◌&&◌, not, nat_lt, nat_le, Bool, List, [], ◌∷◌}
+use Rattle.std.specs.Prelude.{◌++◌, length, map, filter, filter_map, flat_map, take, drop, Any, Option, Some, None, MatchOption, slice_get, option_map, option_and_then}
+use Rattle.std.specs.Prelude.{unwrap_or, ⊤}
 use Rattle.std.specs.List.{list_any, AllByRecursion as Every}
 use Rattle.pre_base.specs.declared.limits.TheConstants.{GAP}
 use Rattle.pre_script.specs.declared.scripts.Setting.{Setting}

@@ -5,7 +5,7 @@ use Rattle.std.proofs.lemmas.Option.{slice_get-get_or}
 use Rattle.pre_base.specs.Last.{last}
 use Rattle.pre_base.specs.declared.numbers.NodeId.{NodeId}
 use Rattle.pre_script.specs.declared.scripts.SendLine.{SendLine}
-use Rattle.pre_frame.specs.Layout.{frame_of}
+use Rattle.pre_frame.specs.Layout.{frame_of, with_check}
 use Rattle.pre_streams.specs.declared.rows.Row.{Row}
 use Rattle.pre_history.specs.Scenario.{Scenario, row, send, no_send, source, destination, number_of_node, FrameOf}
 
@@ -48,3 +48,12 @@ module _ (w : Scenario) (k : ℕ) (r : Row) (nodes : List NodeId) (is : r ≡ ro
       let put : new ≡ frame_of (slice_index_or nodes (length nodes - 1) d).0 (slice_index_or nodes 0 e).0 prio r.vid k (send w k).send.size ++ drop (send w k).send.size into
       = subst (λ n. new ≡ frame_of (slice_index_or nodes (length nodes - 1) d).0 (slice_index_or nodes 0 e).0 prio r.vid k n ++ drop n into) one built in
       put ∙ (ap (λ xs. xs ++ drop (send w k).send.size into) (octets_are d e prio of_row) ∙ ap (λ n. FrameOf w k ++ drop n into) (sym (its_size ∙ one)))
+
+  -- and so are the octets that are built before its check
+  pub unchecked_put : (d e : NodeId) (prio : ℕ) (sends : List SendLine) (unchecked : List ℕ) → prio ≡ r.prio → sends ≡ w.script.sends
+      → with_check unchecked ≡ frame_of (slice_index_or nodes (length nodes - 1) d).0 (slice_index_or nodes 0 e).0 prio r.vid k (slice_index_or sends k no_send).send.size
+      → with_check unchecked ≡ FrameOf w k
+  unchecked_put d e prio sends unchecked of_row known built =
+      built
+      ∙ (ap (λ (xs : List SendLine). frame_of (slice_index_or nodes (length nodes - 1) d).0 (slice_index_or nodes 0 e).0 prio r.vid k (slice_index_or xs k no_send).send.size) known
+      ∙ octets_are d e prio of_row)

@@ -1,8 +1,10 @@
 pub mod TakenApart
 pub mod Building
+pub mod Compared
 pub mod Counted
 pub mod Damaging
 pub mod Expecting
+pub mod Fronts
 pub mod Goings
 pub mod Happenings
 pub mod NextOne

@@ -11,7 +11,7 @@ use Rattle.pre_incoming.specs.declared.landings.Landing.{Landing}
 use Rattle.pre_incoming.specs.declared.landings.Landed.{Landed}
 use Rattle.pre_incoming.specs.declared.landings.Landed.TheVariants as landed
 use Rattle.pre_incoming.specs.Changes.{loses, damaged}
-use Rattle.pre_incoming.specs.Judging.{Judged, expected}
+use Rattle.pre_incoming.specs.Judging.{Judged, IsExpected, expected}
 
 module _ (w : Scenario) (a : ℕ) (p : OnWire) where
   -- the octets that arrive
@@ -32,9 +32,7 @@ module _ (w : Scenario) (a : ℕ) (p : OnWire) where
 
   -- where a frame is given, the expected one stands at the front of the memory for one
   abbrev pub HasFront : List ℕ → Landed → Type 0
-  HasFront front (landed.Frame f) = expected w p ≡ Some front
-  HasFront front landed.Lldp = expected w p ≡ Some front
-  HasFront front other = Unit {0}
+  HasFront front given = IsExpected (expected w p) front given
 
 -- The first mPacket on the wire isn't due at the tick.
 abbrev pub IsNotDue : ℕ → List OnWire → Type 0

@@ -1,9 +1,10 @@
 -- What an arrival comes to, by what was sent as that mPacket.
-use Rattle.std.specs.Prelude.{◌≡◌, ◌≢◌, ◌⊎◌, ◌+◌, ℕ, nat_lt, nat_le, ◌&&◌, if◌then◌else◌, List, length, drop, Option, Some, None}
+use Rattle.std.specs.Prelude.{◌≡◌, ◌≢◌, ◌⊎◌, ◌+◌, ℕ, ◌-◌, nat_lt, nat_le, ◌&&◌, if◌then◌else◌, List, length, take, drop, Option, Some, None}
 use Rattle.pre_mpacket.specs.declared.packets.Kind.{Kind}
 use Rattle.pre_mpacket.specs.declared.packets.Kind.TheVariants as kind
 use Rattle.pre_mpacket.specs.Arrivals.{Given}
 use Rattle.pre_base.specs.declared.limits.TheConstants.{GREATEST_FRAME, HEAD, LEAST_FRAME}
+use Rattle.pre_frame.specs.Layout.{with_check}
 use Rattle.pre_receive.specs.Takings.{Taking, gave, gave_nothing}
 use Rattle.pre_history.specs.declared.events.What.{What}
 use Rattle.pre_history.specs.declared.events.What.TheVariants as what
@@ -25,6 +26,18 @@ module _ (w : Scenario) where
   -- the frame that an mPacket gives where it arrives as it was sent, if it has the frame's last octets
   abbrev pub expected : OnWire → Option (List ℕ)
   expected p = if p.is_last then expected_of p.what p.octets else None
+
+-- the frame of this size of which octets stand at the front of the memory for one: of a user frame those before the check
+abbrev pub frame_at_front : What → ℕ → List ℕ → List ℕ
+frame_at_front (what.Frame f) size front = with_check (take (size - 4) front)
+frame_at_front what.Lldp size front = take size front
+frame_at_front what.Nothing size front = take size front
+
+-- where a frame is given, this is the expected one
+abbrev pub IsExpected : Option (List ℕ) → List ℕ → Landed → Type 0
+IsExpected expects frame (landed.Frame f) = expects ≡ Some frame
+IsExpected expects frame landed.Lldp = expects ≡ Some frame
+IsExpected expects frame other = Unit {0}
 
 -- what is given with the last octets of this
 abbrev pub carried : What → Landed

@@ -1,5 +1,7 @@
 -- A frame that went in fragments gives itself where its last one arrives, if none of them is lost or damaged, nor what began between them.
-use Rattle.std.proofs.Common.{ℕ, zero, suc, ◌≡◌, ◌==◌, ◌+◌, ◌-◌, ◌%◌, ◌<◌, ◌≤◌, Bool, true, false, List, [], ◌∷◌, ◌++◌, length, take, drop, refl, sym, ◌∙◌, ap, inl, inr, arith, subst, length-append, Option, Some, map, None}
+use Rattle.std.proofs.Common.{ℕ, zero, suc, ◌≡◌, ◌==◌, ◌+◌, ◌-◌, ◌%◌, ◌<◌, ◌≤◌, Bool, true, false, List, []}
+use Rattle.std.proofs.Common.{◌∷◌, ◌++◌, length, take, drop, refl, sym, ◌∙◌, ap, inl, inr, arith, subst, length-append, Option}
+use Rattle.std.proofs.Common.{Some, map, None}
 use Rattle.std.specs.Prelude.{if◌then◌else◌, slice_get, unwrap_or, option_map, option_and_then, replicate}
 use Rattle.std.proofs.lemmas.List.{append-nil, map-append, length-take-le, length-drop}
 use Rattle.pre_base.specs.declared.numbers.FrameNo.{FrameNo}

@@ -1,5 +1,6 @@
 -- What comes to rings at a tick neither came before nor began, and each frame that began came before.
-use Rattle.std.proofs.Common.{ℕ, ◌≡◌, ◌≢◌, ◌⊎◌, ◌==◌, ◌&&◌, ◌+◌, ◌*◌, ◌<◌, ◌≤◌, Bool, true, false, List, ◌∷◌, length, refl, sym, ◌∙◌, ap, inl, inr, arith, subst, Some, None}
+use Rattle.std.proofs.Common.{ℕ, ◌≡◌, ◌≢◌, ◌⊎◌, ◌==◌, ◌&&◌, ◌+◌, ◌*◌, ◌<◌, ◌≤◌, Bool, true, false}
+use Rattle.std.proofs.Common.{List, ◌∷◌, length, refl, sym, ◌∙◌, ap, inl, inr, arith, subst, Some, None}
 use Rattle.std.specs.Prelude.{if◌then◌else◌, slice_get, All, AllPairs, Contains}
 use Rattle.std.specs.List.{AllByRecursion as Every}
 use Rattle.std.proofs.lemmas.Bool.{and_parts}

@@ -1,5 +1,7 @@
 -- Each fragment begins a run or goes on with the one before it: an induction over the mPackets of an arc.
-use Rattle.std.proofs.Common.{ℕ, zero, suc, ◌≡◌, ◌≢◌, ◌⊎◌, ◌==◌, ◌+◌, ◌-◌, ◌%◌, ◌<◌, ◌≤◌, Bool, true, false, List, [], ◌∷◌, ◌++◌, length, take, drop, refl, sym, ◌∙◌, ap, inl, inr, arith, subst, length-append, Option, Some, None, filter}
+use Rattle.std.proofs.Common.{ℕ, zero, suc, ◌≡◌, ◌≢◌, ◌⊎◌, ◌==◌, ◌+◌, ◌-◌, ◌%◌, ◌<◌, ◌≤◌, Bool, true, false, List}
+use Rattle.std.proofs.Common.{[], ◌∷◌, ◌++◌, length, take, drop, refl, sym, ◌∙◌, ap, inl, inr, arith, subst, length-append, Option, Some, None}
+use Rattle.std.proofs.Common.{filter}
 use Rattle.std.specs.Prelude.{if◌then◌else◌, slice_get, unwrap_or, option_map, option_and_then, MatchOption}
 use Rattle.std.specs.List.{AllByRecursion as Every}
 use Rattle.std.proofs.Math.Seq.{take-add}
@@ -29,7 +31,8 @@ use Rattle.pre_history.proofs.InOrder.{steady}
 use Rattle.pre_laws.specs.Routed.{IsRouted}
 use Rattle.pre_laws.proofs.Begun.{choice_of, by_item}
 use Rattle.pre_laws.proofs.Routed.{BegunRight, begins_right, all_right}
-use Rattle.pre_laws.proofs.Runs.{IsRun, passes, run_to, run_is, run_other, run_new, run_more, end_is, check_of, checked_push, continued_push, every_push, fragment_size, is_begun_start, is_begun_fragment, no_eq}
+use Rattle.pre_laws.proofs.Runs.{IsRun, passes, run_to, run_is, run_other, run_new, run_more, end_is, check_of, checked_push, continued_push}
+use Rattle.pre_laws.proofs.Runs.{every_push, fragment_size, is_begun_start, is_begun_fragment, no_eq}
 use Rattle.pre_history.proofs.NatTests.{is_eq}
 
 take_none : (l : List ℕ) → take 0 l ≡ []

@@ -1,5 +1,6 @@
 -- An express mPacket that isn't lost or damaged gives the frame that was sent.
-use Rattle.std.proofs.Common.{ℕ, ◌≡◌, ◌==◌, ◌+◌, ◌<◌, Bool, false, List, [], ◌∷◌, ◌++◌, length, refl, sym, ◌∙◌, ap, inl, inr, arith, subst, Some, None, filter, length-append}
+use Rattle.std.proofs.Common.{ℕ, ◌≡◌, ◌==◌, ◌+◌, ◌<◌, Bool, false, List, [], ◌∷◌, ◌++◌, length, refl, sym, ◌∙◌}
+use Rattle.std.proofs.Common.{ap, inl, inr, arith, subst, Some, None, filter, length-append}
 use Rattle.std.specs.Prelude.{slice_get, if◌then◌else◌, option_map, option_and_then, fold, IsTrue, IsFalse, All}
 use Rattle.std.specs.List.{list_any, AllByRecursion as Every}
 use Rattle.pre_base.specs.declared.numbers.FrameNo.{FrameNo}

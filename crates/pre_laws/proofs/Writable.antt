@@ -1,5 +1,7 @@
 -- What a legal history tells can be written over its network.
-use Rattle.std.proofs.Common.{ℕ, suc, ◌≡◌, ◌⊎◌, ◌==◌, ◌+◌, ◌-◌, ◌*◌, ◌^◌, ◌%◌, ◌<◌, ◌≤◌, Bool, true, false, List, [], ◌∷◌, ◌++◌, length, refl, sym, ◌∙◌, ap, inl, inr, arith, subst, length-append, Option, Some, None, drop, take, replicate, min, filter}
+use Rattle.std.proofs.Common.{ℕ, suc, ◌≡◌, ◌⊎◌, ◌==◌, ◌+◌, ◌-◌, ◌*◌, ◌^◌, ◌%◌, ◌<◌, ◌≤◌, Bool, true, false, List, []}
+use Rattle.std.proofs.Common.{◌∷◌, ◌++◌, length, refl, sym, ◌∙◌, ap, inl, inr, arith, subst, length-append, Option, Some, None, drop, take, replicate}
+use Rattle.std.proofs.Common.{min, filter}
 use Rattle.std.specs.Prelude.{if◌then◌else◌, slice_get, All, nat_lt, IsTrue}
 use Rattle.std.specs.List.{list_any, AllByRecursion as Every}
 use Rattle.std.proofs.Math.Nat.{min-le_left}

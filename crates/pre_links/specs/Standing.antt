@@ -1,5 +1,6 @@
 -- What the sending end of an arc that negotiates stands for in a history: the state of its link at the ticks that are settled.
-use Rattle.std.specs.Prelude.{ℕ, ◌+◌, ◌%◌, ◌≡◌, ◌≢◌, ◌<◌, ◌≤◌, ◌↔◌, ◌&&◌, not, Bool, true, false, List, [], ◌∷◌, length, Option, Some, None, Any, map, filter, option_map}
+use Rattle.std.specs.Prelude.{ℕ, ◌+◌, ◌%◌, ◌≡◌, ◌≢◌, ◌<◌, ◌≤◌, ◌↔◌, ◌&&◌, not, Bool, true, false, List}
+use Rattle.std.specs.Prelude.{[], ◌∷◌, length, Option, Some, None, Any, map, filter, option_map}
 use Rattle.std.specs.Bool.{Decides}
 use Rattle.pre_lldp.specs.LinkState as link
 use Rattle.pre_verify.specs.Calls.{Call, settled, responded, good_of, verifies_of, responds_of}

@@ -1,5 +1,7 @@
 -- What is sent is read back.
-use Rattle.std.proofs.Common.{◌≡◌, ℕ, zero, suc, ◌+◌, ◌-◌, ◌*◌, ◌/◌, ◌%◌, ◌<◌, ◌≤◌, ◌&&◌, not, nat_le, Bool, true, false, cond, List, [], ◌∷◌, ◌++◌, length, take, replicate, Some, None, refl, sym, ap, ap₂, ◌∙◌, arith, append_assoc, length-append, decimal, inr, lit<}
+use Rattle.std.proofs.Common.{◌≡◌, ℕ, zero, suc, ◌+◌, ◌-◌, ◌*◌, ◌/◌, ◌%◌, ◌<◌, ◌≤◌, ◌&&◌, not, nat_le, Bool, true, false, cond}
+use Rattle.std.proofs.Common.{List, [], ◌∷◌, ◌++◌, length, take, replicate, Some, None, refl, sym, ap, ap₂, ◌∙◌, arith, append_assoc, length-append}
+use Rattle.std.proofs.Common.{decimal, inr, lit<}
 use Rattle.std.proofs.lemmas.Bool.{le-leb, and_from}
 use Rattle.std.proofs.lemmas.List.{take_at, length-replicate}
 use Rattle.std.proofs.lemmas.Fmt.{length-decimal-le, decimal_nonempty}
@@ -11,7 +13,8 @@ use Rattle.pre_lldp.specs.declared.adverts.Advert.{Advert}
 use Rattle.pre_lldp.specs.Tlvs.{octets_of, is_capabilities, has_place, has_length, fault_of}
 use Rattle.pre_lldp.specs.Pdus.{Faultless, Fields, caps_of, IsPdu, tlvs_of}
 use Rattle.pre_lldp.specs.PduReading.{pdu_of}
-use Rattle.pre_lldp.specs.LldpLayout.{nearest_bridge, lldp_type, chassis_of, port_of, capabilities_of, capabilities_tlv, lldpdu_of, padded, lldp_frame, lldpdu_in, is_lldp_frame, advert_from, if_read, advert_of}
+use Rattle.pre_lldp.specs.LldpLayout.{nearest_bridge, lldp_type, chassis_of, port_of, capabilities_of, capabilities_tlv, lldpdu_of, padded}
+use Rattle.pre_lldp.specs.LldpLayout.{lldp_frame, lldpdu_in, is_lldp_frame, advert_from, if_read, advert_of}
 use Rattle.pre_lldp.specs.declared.reading.LldpFault.TheVariants.{Length}
 use Rattle.pre_lldp.proofs.PduLaws.{pdu_of-pdu}
 use Rattle.pre_lldp.proofs.Written.{in_order, front_of, back_of}

@@ -1,10 +1,12 @@
 -- The computed state of a link is the state that conditions on ticks give.
-use Rattle.std.proofs.Common.{◌≡◌, ℕ, zero, suc, ◌+◌, ◌<◌, ◌≤◌, ◌⊎◌, inl, inr, ◌&&◌, not, Bool, true, false, cond, leb, ltb, List, length, Option, Some, None, refl, sym, ap, subst, ◌∙◌, arith}
+use Rattle.std.proofs.Common.{◌≡◌, ℕ, zero, suc, ◌+◌, ◌<◌, ◌≤◌, ◌⊎◌, inl, inr, ◌&&◌, not, Bool, true, false, cond}
+use Rattle.std.proofs.Common.{leb, ltb, List, length, Option, Some, None, refl, sym, ap, subst, ◌∙◌, arith}
 use Rattle.std.specs.Prelude.{Any, unwrap_or, MatchOption}
 use Rattle.std.specs.Option.{option_map_or}
 use Rattle.std.proofs.lemmas.Bool.{leb-true, ltb-true, le-leb, lt-ltb, and_parts, and_from, cases_lt, both_ways, not-true, not_from_false, false_from_ne_true}
 use Rattle.std.proofs.lemmas.List.Folds.{Any-from_list_any, list_any-from_Any}
-use Rattle.pre_lldp.specs.LinkState.{Verify, GoodFrom, GoodSince, Verified, verifies_since, last_verify, IsOver, VerifyWanted, run_start, is_answered, is_verified_since, is_verified, is_over, is_wanted_since, is_verify_wanted, AtTrue}
+use Rattle.pre_lldp.specs.LinkState.{Verify, GoodFrom, GoodSince, Verified, verifies_since, last_verify, IsOver, VerifyWanted, run_start}
+use Rattle.pre_lldp.specs.LinkState.{is_answered, is_verified_since, is_verified, is_over, is_wanted_since, is_verify_wanted, AtTrue}
 
 any_map : {X : Type 0} (P Q : X → Type 0) (xs : List X) → ((x : X) → P x → Q x) → Any P xs → Any Q xs
 any_map P Q xs f a = (a.0, a.1, a.2, a.3, f a.1 a.4)

@@ -1,6 +1,7 @@
 -- The state of a link that negotiates preemption (IEEE 802.3 clause 99.4.3), as conditions on ticks: those at which Good
 -- holds, those at which verifies began and ended, and those at which responds came.
-use Rattle.std.specs.Prelude.{◌≡◌, ℕ, zero, suc, ◌+◌, ◌<◌, ◌≤◌, ◌&&◌, nat_le, nat_lt, not, Bool, true, false, if◌then◌else◌, List, length, filter, Any, Option, Some, None, unwrap_or, MatchOption, ⊤}
+use Rattle.std.specs.Prelude.{◌≡◌, ℕ, zero, suc, ◌+◌, ◌<◌, ◌≤◌, ◌&&◌, nat_le, nat_lt, not, Bool, true, false}
+use Rattle.std.specs.Prelude.{if◌then◌else◌, List, length, filter, Any, Option, Some, None, unwrap_or, MatchOption, ⊤}
 use Rattle.std.specs.List.{list_any}
 use Rattle.std.specs.Option.{option_map_or}
 use Rattle.pre_base.specs.Last.{last}

@@ -1,5 +1,6 @@
 -- LLDP frames (IEEE 802.1AB clauses 7 and 8) as lists of octets, and what they say.
-use Rattle.std.specs.Prelude.{ℕ, ◌+◌, ◌-◌, ◌*◌, ◌/◌, ◌%◌, ◌==◌, ◌&&◌, nat_eq, Bool, cond, List, [], ◌∷◌, ◌++◌, length, take, drop, replicate, Option, Some, None, unwrap_or, Result, Ok, Err, decimal}
+use Rattle.std.specs.Prelude.{ℕ, ◌+◌, ◌-◌, ◌*◌, ◌/◌, ◌%◌, ◌==◌, ◌&&◌, nat_eq, Bool, cond, List, [], ◌∷◌}
+use Rattle.std.specs.Prelude.{◌++◌, length, take, drop, replicate, Option, Some, None, unwrap_or, Result, Ok, Err, decimal}
 use Rattle.std.specs.List.{starts_with}
 use Rattle.std.specs.Int.{bytes_high_first}
 use Rattle.pre_frame.specs.Layout.{address_of, with_check}

@@ -1,5 +1,6 @@
 -- A slot is in where one more frame may be inside a bridge.
-use Rattle.std.proofs.Common.{ℕ, suc, ◌≡◌, ◌≢◌, ◌<◌, ◌≤◌, ◌+◌, ◌==◌, inl, inr, Bool, true, false, cond, leb, eqb, List, [], ◌∷◌, length, map, refl, sym, ◌∙◌, ap, arith, subst, count_by, Some}
+use Rattle.std.proofs.Common.{ℕ, suc, ◌≡◌, ◌≢◌, ◌<◌, ◌≤◌, ◌+◌, ◌==◌, inl, inr, Bool, true, false, cond, leb, eqb}
+use Rattle.std.proofs.Common.{List, [], ◌∷◌, length, map, refl, sym, ◌∙◌, ap, arith, subst, count_by, Some}
 use Rattle.std.specs.Prelude.{slice_get, slice_index_or, sum}
 use Rattle.std.specs.List.{sum_by, AllByRecursion as Every}
 use Rattle.std.proofs.lemmas.Bool.{eqb-true, eqb-false, leb-true, leb-false, le-leb, lt-leb, eq-eqb, ne_eqb, cases_eq}

@@ -1,5 +1,6 @@
 -- How much is on the wire of an arc after a legal history.
-use Rattle.std.proofs.Common.{ℕ, zero, suc, ◌≡◌, ◌<◌, ◌≤◌, ◌+◌, ◌-◌, ◌*◌, ◌/◌, inl, inr, List, [], ◌∷◌, length, drop, refl, sym, ◌∙◌, ap, arith, subst, Some}
+use Rattle.std.proofs.Common.{ℕ, zero, suc, ◌≡◌, ◌<◌, ◌≤◌, ◌+◌, ◌-◌, ◌*◌, ◌/◌, inl, inr, List, [], ◌∷◌}
+use Rattle.std.proofs.Common.{length, drop, refl, sym, ◌∙◌, ap, arith, subst, Some}
 use Rattle.std.specs.Prelude.{slice_get, sum_by}
 use Rattle.std.specs.List.{AllByRecursion as Every}
 use Rattle.std.proofs.Math.Nat.{mul-le-mul_left}

@@ -1,5 +1,6 @@
 -- How many octets mPackets have that ended.
-use Rattle.std.proofs.Common.{refl, ℕ, ◌≡◌, ◌==◌, ◌<◌, ◌≤◌, ◌+◌, ◌-◌, Bool, true, false, ◌++◌, length, take, drop, ◌∙◌, ap, arith, Some, All, length-append, replicate}
+use Rattle.std.proofs.Common.{refl, ℕ, ◌≡◌, ◌==◌, ◌<◌, ◌≤◌, ◌+◌, ◌-◌, Bool, true, false, ◌++◌, length, take}
+use Rattle.std.proofs.Common.{drop, ◌∙◌, ap, arith, Some, All, length-append, replicate}
 use Rattle.std.specs.Prelude.{if◌then◌else◌, slice_get}
 use Rattle.std.proofs.lemmas.List.{length-take-le, length-drop}
 use Rattle.std.proofs.lemmas.List.Elements.{All-from_recursion}

@@ -1,4 +1,5 @@
-ghost use Rattle.std.specs.Prelude.{◌≡◌, ◌≤◌, ◌<◌, ℕ, ◌+◌, ◌*◌, ◌/◌, List, length, map, drop, slice_get, slice_set, slice_index_or, sum, sum_by, All, Option, Some, IsSome, []};
+ghost use Rattle.std.specs.Prelude.{◌≡◌, ◌≤◌, ◌<◌, ℕ, ◌+◌, ◌*◌, ◌/◌, List, length, map, drop, slice_get, slice_set};
+ghost use Rattle.std.specs.Prelude.{slice_index_or, sum, sum_by, All, Option, Some, IsSome, []};
 ghost use Rattle.pre_base.specs.declared.numbers.ArcId.{ArcId};
 ghost use Rattle.pre_rings.specs.declared.slots.FrameRef.{FrameRef};
 ghost use Rattle.pre_topo.specs.declared.network.Network.{Network};

@@ -1,5 +1,6 @@
 -- Pieces that carry a frame give it.
-use Rattle.std.proofs.Common.{ℕ, suc, ◌≡◌, ◌≤◌, ◌<◌, ◌+◌, ◌-◌, List, [], ◌∷◌, ◌++◌, length, take, drop, refl, sym, ◌∙◌, ap, inr, arith, subst, Option, Some, append_assoc, length-append}
+use Rattle.std.proofs.Common.{ℕ, suc, ◌≡◌, ◌≤◌, ◌<◌, ◌+◌, ◌-◌, List, [], ◌∷◌, ◌++◌, length, take, drop, refl}
+use Rattle.std.proofs.Common.{sym, ◌∙◌, ap, inr, arith, subst, Option, Some, append_assoc, length-append}
 use Rattle.std.specs.Prelude.{◌↔◌, true}
 use Rattle.std.proofs.lemmas.List.{append-nil}
 use Rattle.pre_base.specs.declared.limits.TheConstants.{GREATEST_DATA}

@@ -1,5 +1,6 @@
 -- Octets that spell an mPacket have no fault, and others have one first fault.
-use Rattle.std.proofs.Common.{◌≡◌, ◌⊎◌, ℕ, ◌-◌, ◌<◌, ◌≤◌, Bool, true, false, List, [], ◌∷◌, ◌++◌, length, take, drop, get_or, Result, Ok, Err, refl, sym, ◌∙◌, ap, subst, inl, inr, arith, append_assoc, drop-cons}
+use Rattle.std.proofs.Common.{◌≡◌, ◌⊎◌, ℕ, ◌-◌, ◌<◌, ◌≤◌, Bool, true, false, List, [], ◌∷◌, ◌++◌, length}
+use Rattle.std.proofs.Common.{take, drop, get_or, Result, Ok, Err, refl, sym, ◌∙◌, ap, subst, inl, inr, arith, append_assoc, drop-cons}
 use Rattle.std.specs.Prelude.{nat_eq, ◌≢◌, replicate, slice_index, Contains, IsOkAnd, IfOk, IfErr, IsErrAnd, IsErrOf, MatchResult}
 use Rattle.std.specs.List.{starts_with}
 use Rattle.std.proofs.Math.ListN.{get_or-append}

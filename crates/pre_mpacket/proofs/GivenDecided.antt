@@ -1,5 +1,6 @@
 -- What an arrival gives is decided.
-use Rattle.std.proofs.Common.{ℕ, suc, ◌≡◌, ◌⊎◌, ◌+◌, ◌%◌, ◌≤◌, Bool, List, [], ◌∷◌, ◌++◌, length, refl, sym, ◌∙◌, inl, inr, arith, subst, Option, Some, None, replicate}
+use Rattle.std.proofs.Common.{ℕ, suc, ◌≡◌, ◌⊎◌, ◌+◌, ◌%◌, ◌≤◌, Bool, List, [], ◌∷◌, ◌++◌, length, refl, sym}
+use Rattle.std.proofs.Common.{◌∙◌, inl, inr, arith, subst, Option, Some, None, replicate}
 use Rattle.std.specs.Prelude.{slice_get, IsTrue}
 use Rattle.pre_base.specs.declared.limits.TheConstants.{GREATEST_DATA, GREATEST_FRAME}
 use Rattle.pre_crc.specs.Checks.{Fcs, Mcrc}

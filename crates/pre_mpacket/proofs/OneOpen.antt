@@ -1,5 +1,7 @@
 -- One frame at most is open, and it is what stands open before the next arrival.
-use Rattle.std.proofs.Common.{ℕ, zero, suc, ◌≡◌, ◌⊎◌, ◌≤◌, ◌<◌, ◌+◌, ◌-◌, ◌%◌, List, [], ◌∷◌, ◌++◌, length, take, drop, refl, sym, ◌∙◌, ap, inl, inr, arith, subst, Bool, Option, Some, None, true, false, filter, length-append}
+use Rattle.std.proofs.Common.{ℕ, zero, suc, ◌≡◌, ◌⊎◌, ◌≤◌, ◌<◌, ◌+◌, ◌-◌, ◌%◌, List, [], ◌∷◌, ◌++◌}
+use Rattle.std.proofs.Common.{length, take, drop, refl, sym, ◌∙◌, ap, inl, inr, arith, subst, Bool, Option, Some, None, true, false, filter}
+use Rattle.std.proofs.Common.{length-append}
 use Rattle.std.specs.Prelude.{option_and_then, ◌↔◌}
 use Rattle.std.specs.List.{cons_option}
 use Rattle.std.proofs.lemmas.Bool.{cases_lt, false_from_ne_true}

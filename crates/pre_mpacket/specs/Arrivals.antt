@@ -1,5 +1,6 @@
 -- What each of a list of arrivals gives. Place i of the list has the octets of arrival i, and None where it was lost.
-use Rattle.std.specs.Prelude.{ℕ, suc, ◌-◌, ◌<◌, ◌≤◌, ◌≡◌, ◌⊎◌, Bool, true, false, List, [], ◌++◌, length, filter, filter_map, take, drop, replicate, Option, Some, None, slice_get, option_and_then, IsTrue, IsFalse}
+use Rattle.std.specs.Prelude.{ℕ, suc, ◌-◌, ◌<◌, ◌≤◌, ◌≡◌, ◌⊎◌, Bool, true, false, List, [], ◌++◌, length, filter}
+use Rattle.std.specs.Prelude.{filter_map, take, drop, replicate, Option, Some, None, slice_get, option_and_then, IsTrue, IsFalse}
 use Rattle.pre_base.specs.declared.limits.TheConstants.{LEAST_FRAME, GREATEST_FRAME, LEAST_DATA, GREATEST_DATA}
 use Rattle.pre_crc.specs.Checks.{Fcs, Mcrc}
 use Rattle.pre_mpacket.specs.declared.packets.Kind.{Kind}

@@ -1,5 +1,7 @@
 -- How an mPacket is spelled in octets (IEEE 802.3, 99.3).
-use Rattle.std.specs.Prelude.{◌≡◌, ◌≢◌, ◌⊎◌, ℕ, ◌-◌, ◌<◌, ◌≤◌, nat_lt, nat_eq, if◌then◌else◌, List, [], ◌∷◌, ◌++◌, length, take, drop, replicate, map, flat_map, find, slice_index, Contains, Option, None, option_map, Result, Ok, Err}
+use Rattle.std.specs.Prelude.{◌≡◌, ◌≢◌, ◌⊎◌, ℕ, ◌-◌, ◌<◌, ◌≤◌, nat_lt, nat_eq, if◌then◌else◌, List, []}
+use Rattle.std.specs.Prelude.{◌∷◌, ◌++◌, length, take, drop, replicate, map, flat_map, find, slice_index, Contains, Option, None, option_map}
+use Rattle.std.specs.Prelude.{Result, Ok, Err}
 use Rattle.std.specs.List.{starts_with}
 use Rattle.pre_base.specs.declared.limits.TheConstants.{LEAST_DATA}
 use Rattle.pre_mpacket.specs.declared.packets.Kind.{Kind}

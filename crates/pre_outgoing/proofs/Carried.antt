@@ -1,5 +1,6 @@
 -- The octets that a sender gives an mPacket are those of the history, and when they are its frame's last.
-use Rattle.std.proofs.Common.{ℕ, ◌≡◌, ◌≢◌, ◌⊎◌, ◌==◌, ◌+◌, ◌-◌, Bool, true, false, List, length, take, drop, refl, sym, ◌∙◌, ap, ap₂, inl, inr, arith, subst, Option, Some, None}
+use Rattle.std.proofs.Common.{ℕ, ◌≡◌, ◌≢◌, ◌⊎◌, ◌==◌, ◌+◌, ◌-◌, Bool, true, false, List, length, take, drop, refl}
+use Rattle.std.proofs.Common.{sym, ◌∙◌, ap, ap₂, inl, inr, arith, subst, Option, Some, None}
 use Rattle.std.specs.Prelude.{if◌then◌else◌, is_some, ◌↔◌, IsTrue}
 use Rattle.std.proofs.lemmas.Bool.Decides.{eqb_tells}
 use Rattle.pre_rings.specs.declared.slots.FrameRef.{FrameRef}

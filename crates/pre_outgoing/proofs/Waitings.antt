@@ -1,5 +1,6 @@
 -- While no mPacket begins, an express frame that waits goes on waiting; and none waits that has not entered.
-use Rattle.std.proofs.Common.{ℕ, ◌≡◌, ◌≢◌, ◌==◌, ◌&&◌, ◌||◌, ◌+◌, ◌*◌, ◌<◌, ◌≤◌, nat_lt, nat_le, not, Bool, true, false, List, [], ◌∷◌, refl, ◌∙◌, ap, inl, inr, arith, Some, filter}
+use Rattle.std.proofs.Common.{ℕ, ◌≡◌, ◌≢◌, ◌==◌, ◌&&◌, ◌||◌, ◌+◌, ◌*◌, ◌<◌, ◌≤◌, nat_lt, nat_le, not}
+use Rattle.std.proofs.Common.{Bool, true, false, List, [], ◌∷◌, refl, ◌∙◌, ap, inl, inr, arith, Some, filter}
 use Rattle.std.specs.Prelude.{slice_get, ◌↔◌}
 use Rattle.std.specs.List.{list_any, AllByRecursion as Every}
 use Rattle.std.proofs.Math.Nat.{mul-le-mul_left}

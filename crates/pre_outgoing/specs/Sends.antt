@@ -1,5 +1,6 @@
 -- What the sending end of an arc stands for in a history, and what its answers tell of it.
-use Rattle.std.specs.Prelude.{◌≡◌, ◌↔◌, ◌+◌, ◌-◌, ◌^◌, ◌<◌, min, ℕ, Bool, true, false, IsTrue, List, [], ◌∷◌, ◌++◌, length, count_by, slice_get, take, drop, is_some, Option, Some, None}
+use Rattle.std.specs.Prelude.{◌≡◌, ◌↔◌, ◌+◌, ◌-◌, ◌^◌, ◌<◌, min, ℕ, Bool, true, false, IsTrue, List, [], ◌∷◌}
+use Rattle.std.specs.Prelude.{◌++◌, length, count_by, slice_get, take, drop, is_some, Option, Some, None}
 use Rattle.std.specs.List.{AllByRecursion as Every}
 use Rattle.pre_mpacket.specs.declared.packets.Kind.{Kind}
 use Rattle.pre_mpacket.specs.declared.packets.Kind.TheVariants as kind

@@ -1,4 +1,5 @@
-ghost use Rattle.std.specs.Prelude.{◌≡◌, ◌≢◌, ◌↔◌, ◌+◌, ◌*◌, ◌^◌, ◌<◌, ◌≤◌, ℕ, Bool, true, false, IsTrue, IsFalse, IsSome, List, Option, Some, option_map, [], ◌∷◌, ◌++◌, length, replicate};
+ghost use Rattle.std.specs.Prelude.{◌≡◌, ◌≢◌, ◌↔◌, ◌+◌, ◌*◌, ◌^◌, ◌<◌, ◌≤◌, ℕ, Bool, true, false, IsTrue};
+ghost use Rattle.std.specs.Prelude.{IsFalse, IsSome, List, Option, Some, option_map, [], ◌∷◌, ◌++◌, length, replicate};
 ghost use Rattle.std.specs.Bool.{Decides};
 ghost use Rattle.pre_base.specs.declared.limits.TheConstants.{GREATEST_FRAME};
 ghost use Rattle.pre_mpacket.specs.Arrivals.{is_continue};

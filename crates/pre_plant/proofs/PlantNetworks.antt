@@ -1,5 +1,6 @@
 -- The network of every plant meets the rules of networks.
-use Rattle.std.proofs.Common.{◌≡◌, ◌≢◌, ℕ, ◌+◌, ◌-◌, ◌*◌, ◌%◌, ◌<◌, ◌≤◌, inl, inr, [], ◌∷◌, length, get_or, slice_get, Some, sum_by, All, AllPairs, refl, sym, ◌∙◌, ap, arith, lit≤, length-append}
+use Rattle.std.proofs.Common.{◌≡◌, ◌≢◌, ℕ, ◌+◌, ◌-◌, ◌*◌, ◌%◌, ◌<◌, ◌≤◌, inl, inr, [], ◌∷◌, length}
+use Rattle.std.proofs.Common.{get_or, slice_get, Some, sum_by, All, AllPairs, refl, sym, ◌∙◌, ap, arith, lit≤, length-append}
 use Rattle.std.proofs.lemmas.Bool.{cases_lt}
 use Rattle.std.proofs.lemmas.List.Elements.{All-append, All-cons, All-nil, All-from_recursion}
 use Rattle.std.proofs.lemmas.List.Kept.{AllPairs-cons}

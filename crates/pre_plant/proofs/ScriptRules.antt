@@ -1,5 +1,6 @@
 -- The script of a plant fits its network and its rows.
-use Rattle.std.proofs.Common.{◌≡◌, ℕ, ◌+◌, ◌-◌, ◌*◌, ◌/◌, ◌<◌, ◌≤◌, ◌^◌, inl, inr, Bool, true, false, cond, min, not, nat_lt, List, [], ◌++◌, length, get_or, map, slice_get, Some}
+use Rattle.std.proofs.Common.{◌≡◌, ℕ, ◌+◌, ◌-◌, ◌*◌, ◌/◌, ◌<◌, ◌≤◌, ◌^◌, inl, inr, Bool, true, false, cond}
+use Rattle.std.proofs.Common.{min, not, nat_lt, List, [], ◌++◌, length, get_or, map, slice_get, Some}
 use Rattle.std.proofs.Common.{None, count_by, All, AllPairs, refl, sym, ◌∙◌, ap, subst, arith, length-append}
 use Rattle.std.specs.List.{list_any}
 use Rattle.std.proofs.Math.Nat.{div-mul-le_self, mul-le-mul_right}

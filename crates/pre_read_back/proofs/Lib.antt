@@ -1,3 +1,4 @@
 pub mod Steps
 pub mod Sayings
 pub mod Whole
+pub mod Comments

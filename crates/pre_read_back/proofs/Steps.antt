@@ -1,5 +1,6 @@
 -- One written line is read where it is due, and so are those of many rows.
-use Rattle.std.proofs.Common.{◌≡◌, ℕ, suc, ◌+◌, true, false, List, [], ◌∷◌, ◌++◌, filter, length, map, Some, Result, Ok, refl, sym, ◌∙◌, ap, subst, append_assoc, arith, slice_get}
+use Rattle.std.proofs.Common.{◌≡◌, ℕ, suc, ◌+◌, true, false, List, [], ◌∷◌, ◌++◌, filter, length, map, Some, Result, Ok}
+use Rattle.std.proofs.Common.{refl, sym, ◌∙◌, ap, subst, append_assoc, arith, slice_get}
 use Rattle.std.specs.List.{enumerate_from, flat_map}
 use Rattle.std.proofs.lemmas.List.{length_push}
 use Rattle.std.proofs.lemmas.List.Concat.{flat_map-cons}
@@ -13,7 +14,8 @@ use Rattle.pre_check.specs.declared.due.Due.{Due}
 use Rattle.pre_check.specs.declared.saying.Said.{Said}
 use Rattle.pre_check.specs.Seen.{Seen, with_said}
 use Rattle.pre_check.specs.Saying.{said_by}
-use Rattle.pre_check.specs.Reading.{after_line, after_lines, after_words, is_comment, then_after}
+use Rattle.pre_text.specs.Words.{is_comment}
+use Rattle.pre_check.specs.Reading.{after_line, after_lines, after_words, then_after}
 
 -- a word that isn't empty
 abbrev pub IsFilled : List ℕ → Type 0

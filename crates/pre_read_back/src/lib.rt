@@ -3,7 +3,7 @@
 
 mod laws;
 
-pub use laws::certificate_reads_back;
+pub use laws::{certificate_reads_back, comments_are_skipped};
 
 #[cfg(test)]
 mod tests {
@@ -34,6 +34,7 @@ mod tests {
     #[test]
     fn what_is_written_is_read_back(rt: HostRuntime) -> Result<(), Fail> {
         certificate_reads_back();
+        comments_are_skipped();
         let alloc = rt.alloc();
         for (first, written) in [
             (

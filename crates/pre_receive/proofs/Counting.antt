@@ -1,5 +1,6 @@
 -- How an arrival raises the counters.
-use Rattle.std.proofs.Common.{ℕ, suc, ◌≡◌, ◌⊎◌, List, [], ◌∷◌, ◌++◌, length, length-append, refl, sym, ◌∙◌, ap, arith, subst, inl, inr, Option, Some, None, true, false, Bool}
+use Rattle.std.proofs.Common.{ℕ, suc, ◌≡◌, ◌⊎◌, List, [], ◌∷◌, ◌++◌, length, length-append, refl, sym, ◌∙◌, ap}
+use Rattle.std.proofs.Common.{arith, subst, inl, inr, Option, Some, None, true, false, Bool}
 use Rattle.std.specs.Prelude.{◌&&◌, ◌||◌, not, min}
 use Rattle.pre_mpacket.specs.declared.packets.Kind.{Kind}
 use Rattle.pre_mpacket.specs.declared.packets.Kind.TheVariants as kind

@@ -1,5 +1,6 @@
 -- What the last arrival gives, where it spells an mPacket.
-use Rattle.std.proofs.Common.{ℕ, suc, ◌≡◌, ◌⊎◌, ◌≤◌, ◌<◌, List, [], ◌∷◌, ◌++◌, length, length-append, refl, sym, ◌∙◌, ap, arith, subst, inl, inr, Option, Some, None, true, false, Bool}
+use Rattle.std.proofs.Common.{ℕ, suc, ◌≡◌, ◌⊎◌, ◌≤◌, ◌<◌, List, [], ◌∷◌, ◌++◌, length, length-append, refl, sym}
+use Rattle.std.proofs.Common.{◌∙◌, ap, arith, subst, inl, inr, Option, Some, None, true, false, Bool}
 use Rattle.std.specs.Prelude.{◌≢◌, ◌↔◌, replicate}
 use Rattle.pre_base.specs.declared.limits.TheConstants.{GREATEST_DATA}
 use Rattle.pre_crc.specs.Checks.{Fcs, Mcrc}
@@ -17,7 +18,8 @@ use Rattle.pre_receive.specs.declared.opened.Opened.{Opened}
 use Rattle.pre_receive.specs.declared.outcomes.Outcome.{Outcome}
 use Rattle.pre_receive.specs.declared.outcomes.Outcome.TheVariants as outcome
 use Rattle.pre_receive.specs.declared.receivers.Receiver.{Receiver}
-use Rattle.pre_receive.specs.Causes.{Reason, no_delimiter, no_fragment_count, short, no_open_frame, other_frame_count, other_fragment_count, long, other_check, place_of, Breaks, MeetsOpen, IsLong, HasReason, IsCause}
+use Rattle.pre_receive.specs.Causes.{Reason, no_delimiter, no_fragment_count, short, no_open_frame, other_frame_count, other_fragment_count, long}
+use Rattle.pre_receive.specs.Causes.{other_check, place_of, Breaks, MeetsOpen, IsLong, HasReason, IsCause}
 use Rattle.pre_receive.specs.Takings.{IsTaken}
 use Rattle.pre_receive.specs.Held.{HoldsOpened}
 use Rattle.pre_receive.specs.Steps.{Opens, JoinedTo}

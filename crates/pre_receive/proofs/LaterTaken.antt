@@ -10,7 +10,8 @@ use Rattle.pre_mpacket.specs.Spelling.{PlainPacket}
 use Rattle.pre_mpacket.specs.Arrivals.{Given, Spelled, Gives, IsOpenBefore}
 use Rattle.pre_mpacket.specs.Open.{IsOpen}
 use Rattle.pre_receive.specs.declared.taken.Cause.{Cause}
-use Rattle.pre_receive.specs.Causes.{Reason, no_delimiter, no_fragment_count, short, no_open_frame, other_frame_count, other_fragment_count, long, other_check, Breaks, MeetsOpen, IsLong, HasReason, IsCause}
+use Rattle.pre_receive.specs.Causes.{Reason, no_delimiter, no_fragment_count, short, no_open_frame, other_frame_count, other_fragment_count, long}
+use Rattle.pre_receive.specs.Causes.{other_check, Breaks, MeetsOpen, IsLong, HasReason, IsCause}
 use Rattle.pre_receive.specs.Takings.{Taking, gave, gave_nothing, IsTaken}
 use Rattle.pre_receive.proofs.PacketLaws.{PacketLaws}
 use Rattle.pre_receive.proofs.Places.{earlier_get, earlier_spelled}

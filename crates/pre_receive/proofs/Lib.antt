@@ -8,3 +8,4 @@ pub mod Lost
 pub mod LaterTaken
 pub mod Sizes
 pub mod PacketLaws
+pub mod Checked

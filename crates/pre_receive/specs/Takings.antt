@@ -1,5 +1,6 @@
 -- What a receiver answers to an arrival.
-use Rattle.std.specs.Prelude.{ℕ, ◌≤◌, List, Option, length}
+use Rattle.std.specs.Prelude.{◌≡◌, ℕ, ◌≤◌, List, ◌++◌, Option, length}
+use Rattle.pre_crc.specs.Checks.{Fcs}
 use Rattle.pre_base.specs.declared.limits.TheConstants.{LEAST_FRAME, GREATEST_FRAME}
 use Rattle.pre_mpacket.specs.Arrivals.{Given, Gives, GivesNothing}
 use Rattle.pre_receive.specs.declared.taken.Cause.{Cause}
@@ -31,3 +32,15 @@ HasFrameSize (gave Given.part) = Unit {0}
 HasFrameSize (gave Given.verify) = Unit {0}
 HasFrameSize (gave Given.respond) = Unit {0}
 HasFrameSize (gave_nothing c) = Unit {0}
+
+-- the last octets are the check of those before them
+abbrev pub EndsWithCheck : List ℕ → Type 0
+EndsWithCheck octets = (unchecked : List ℕ) × (octets ≡ unchecked ++ Fcs unchecked)
+
+-- where it is a frame, that ends with its check
+abbrev pub HasCheck : Taking → Type 0
+HasCheck (gave (Given.frame octets)) = EndsWithCheck octets
+HasCheck (gave Given.part) = Unit {0}
+HasCheck (gave Given.verify) = Unit {0}
+HasCheck (gave Given.respond) = Unit {0}
+HasCheck (gave_nothing c) = Unit {0}

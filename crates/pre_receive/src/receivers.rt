@@ -1,5 +1,6 @@
 ghost use Rattle.std.specs.Prelude.{◌≡◌, ◌+◌, ◌%◌, ◌<◌, ◌≤◌, ℕ, List, [], ◌∷◌, ◌++◌, length, Option, Some, IfOk};
 ghost use Rattle.std.specs.Vec.{vec_capacity};
+ghost use Rattle.std.specs.Option.{ForSome};
 ghost use Rattle.pre_base.specs.declared.limits.TheConstants.{GREATEST_FRAME};
 ghost use Rattle.pre_crc.specs.Register as register;
 ghost use Rattle.pre_receive.specs.Steps.{BareTo};
@@ -28,6 +29,7 @@ pub struct Receiver {
     counters: Counters,
     ghost octets_room: { GREATEST_FRAME ≤ vec_capacity octets },
     ghost whole_room: { GREATEST_FRAME ≤ vec_capacity whole },
+    ghost open_checked: { ForSome opened (λ o. register.Stands o.check octets.items) },
 }
 
 impl Receiver {
@@ -37,7 +39,7 @@ impl Receiver {
     ghost use mathlib.Core.Option.{none};
     ghost use denote.Follow.{follows_so};
     ghost use Rattle.pre_mpacket.specs.Spelling as spelling;
-    ghost use Rattle.pre_receive.specs.Takings.{plain, IsTaken, HasFrameSize};
+    ghost use Rattle.pre_receive.specs.Takings.{plain, IsTaken, HasFrameSize, HasCheck};
     ghost use Rattle.pre_receive.specs.Counts.{Count};
     ghost use Rattle.pre_receive.specs.Receivers.{Stands, taking, SortedTo};
     ghost use Rattle.pre_receive.specs.Steps.{ExpressTo, JoinedTo, ContinuedTo};
@@ -66,6 +68,7 @@ impl Receiver {
             (λ new. (A : List (Option (List ℕ))) → Stands self.old A → Stands new (A ++ Some arrived.now ∷ []))) }
         ensures taken { (A : List (Option (List ℕ))) → Stands self.old A → IsTaken (A ++ Some arrived.now ∷ []) (length A) (plain result) }
         ensures size { (A : List (Option (List ℕ))) → Stands self.old A → HasFrameSize (plain result) }
+        ensures check { HasCheck (plain result) }
     {
         frames_have_their_size();
         let outcome = self.receive(arrived);
@@ -97,6 +100,7 @@ impl Receiver {
     fn receive(&mut self, arrived: &[u8]) -> Outcome
         ensures stands { (A : List (Option (List ℕ))) → Stands self.old A → Stands self.new (A ++ Some arrived.now ∷ []) }
         ensures taken { (A : List (Option (List ℕ))) → Stands self.old A → IsTaken (A ++ Some arrived.now ∷ []) (length A) (taking self.new.whole.items self.new.octets.items result) }
+        ensures check { HasCheck (taking self.new.whole.items self.new.octets.items result) }
     {
         let was_open = self.opened.is_some();
         match read_mpacket(arrived) {
@@ -157,6 +161,7 @@ impl Receiver {
         ensures outcome { JoinedTo result frame_count 0 mdata.now check.now self.new.opened self.new.octets.items }
         ensures counters { self.new.counters ≡ self.old.counters }
     {
+        self.opened = None;
         self.octets.clear();
         self.joined(Running::new(), frame_count, 0, mdata, check)
     }
@@ -198,8 +203,9 @@ impl Receiver {
         mdata: &[u8],
         check: &[u8],
     ) -> Outcome
-        requires { length check.now ≡ 4 }
-        ensures outcome { register.Stands running self.old.octets.items → JoinedTo result frame_count next (self.old.octets.items ++ mdata.now) check.now self.new.opened self.new.octets.items }
+        requires check { length check.now ≡ 4 }
+        requires stands { register.Stands running self.old.octets.items }
+        ensures outcome { JoinedTo result frame_count next (self.old.octets.items ++ mdata.now) check.now self.new.opened self.new.octets.items }
         ensures counters { self.new.counters ≡ self.old.counters }
     {
         self.opened = None;

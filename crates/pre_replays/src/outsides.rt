@@ -35,7 +35,7 @@ fn the_flush_fails(rt: HostRuntime) -> Result<(), Fail> {
 fn wrong_words(rt: HostRuntime) -> Result<(), Fail> {
     let alloc = rt.alloc();
     let usage =
-        "usage: preempt certify, judge, migrate, replay, mpackets, drill, capture or dissect";
+        "usage: preempt certify, judge, migrate, replay, mpackets, drill, admit, capture or dissect";
     for text in [
         "",
         "replay",
@@ -47,6 +47,8 @@ fn wrong_words(rt: HostRuntime) -> Result<(), Fail> {
         "migrate pair pair cert script",
         "drill",
         "drill 1 2",
+        "admit pair pair",
+        "admit pair pair more more",
         "capture pair pair script",
         "dissect",
         "drill 01",

@@ -1,5 +1,6 @@
 -- How a store keeps its slots: side by side in one region, each as wide as the others.
-use Rattle.std.specs.Prelude.{◌≡◌, ℕ, ◌+◌, ◌*◌, ◌<◌, ◌≤◌, List, [], ◌∷◌, length, take, drop, Option, None, Some, All, is_some, is_none, count_by, nat_eq, slice_index_or, if◌then◌else◌}
+use Rattle.std.specs.Prelude.{◌≡◌, ℕ, ◌+◌, ◌*◌, ◌<◌, ◌≤◌, List, [], ◌∷◌, length, take, drop, Option, None, Some}
+use Rattle.std.specs.Prelude.{All, is_some, is_none, count_by, nat_eq, slice_index_or, if◌then◌else◌}
 use Rattle.std.specs.Option.{option_map}
 
 -- what each slot holds: nothing while it is in, and else as many octets of its part of the region as its size says

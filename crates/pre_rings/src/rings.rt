@@ -1,4 +1,5 @@
-ghost use Rattle.std.specs.Prelude.{◌≡◌, ℕ, ◌<◌, ◌≤◌, ◌↔◌, [], ◌∷◌, ◌++◌, IsErr, IfErr, IfOk, OnOk, IfSome, IfNone, length, drop, replicate, slice_get, slice_set, option_copied};
+ghost use Rattle.std.specs.Prelude.{◌≡◌, ℕ, ◌<◌, ◌≤◌, ◌↔◌, [], ◌∷◌, ◌++◌, IsErr, IfErr, IfOk, OnOk, IfSome};
+ghost use Rattle.std.specs.Prelude.{IfNone, length, drop, replicate, slice_get, slice_set, option_copied};
 ghost use Rattle.pre_rings.specs.Ports.{Port, IsPort, frames_at, capacity_at, with_frames};
 
 use crate::slots::FrameRef;

@@ -41,9 +41,6 @@ HasGoodCertificate net streams = (c : Certificate) × GoodCertificate net stream
 
 -- the fault tells nothing of good certificates: there were too few rounds, or too little memory
 abbrev pub leaves_open : RoundsFault → Bool
-leaves_open (Overload arc) = false
-leaves_open (Large arc prio) = false
 leaves_open (Unsettled arc prio) = true
-leaves_open (Wide stream hop) = false
-leaves_open (Ring arc prio need) = false
 leaves_open Memory = true
+leaves_open _ = false

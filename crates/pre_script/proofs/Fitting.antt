@@ -1,12 +1,14 @@
 -- A script that was read fits.
-use Rattle.std.proofs.Common.{◌≡◌, ℕ, ◌^◌, ◌<◌, ◌≤◌, Bool, true, false, ◌&&◌, nat_le, nat_lt, List, [], ◌∷◌, length, get_or, Option, Some, None, Result, Ok, Err, IfOk, All, AllPairs, refl, sym, subst, arith, slice_get, is_some, if◌then◌else◌, codes}
+use Rattle.std.proofs.Common.{◌≡◌, ℕ, ◌^◌, ◌<◌, ◌≤◌, Bool, true, false, ◌&&◌, nat_le, nat_lt, List, [], ◌∷◌, length}
+use Rattle.std.proofs.Common.{get_or, Option, Some, None, Result, Ok, Err, IfOk, All, AllPairs, refl, sym, subst, arith, slice_get, is_some}
+use Rattle.std.proofs.Common.{if◌then◌else◌, codes}
 use Rattle.std.specs.List.{list_all}
 use Rattle.std.specs.Str.{bytes_eq}
 use Rattle.std.proofs.lemmas.List.Elements.{All-push}
 use Rattle.std.proofs.lemmas.List.Quantifiers.{all_pairs_push}
 use Rattle.std.proofs.lemmas.List.Sums.{AllPass-from_list_all}
 use Rattle.std.proofs.lemmas.List.{length_push}
-use Rattle.pre_text.specs.Words.{number_of, pairs_within}
+use Rattle.pre_text.specs.Words.{number_of, pairs_within, is_comment}
 use Rattle.pre_text.specs.Lines.{words_of, numbered_lines, lines_of}
 use Rattle.pre_base.specs.declared.numbers.Tick.{Tick}
 use Rattle.pre_topo.specs.declared.network.Network.{Network}
@@ -20,10 +22,11 @@ use Rattle.pre_script.specs.declared.scripts.SendLine.{SendLine}
 use Rattle.pre_script.specs.declared.scripts.SetLine.{SetLine}
 use Rattle.pre_script.specs.declared.saying.Said.{Said}
 use Rattle.pre_script.specs.declared.saying.Said.TheVariants as said
-use Rattle.pre_script.specs.Rules.{given, kept, horizon, horizon_rule, max_damaged, max_damages, max_losses, max_sends, max_sets, mode_rule, name_rule, number_rule, order_rule, size_rule, word_rule, count_rule, after_rule}
+use Rattle.pre_script.specs.Rules.{given, kept, horizon, horizon_rule, max_damaged, max_damages, max_losses, max_sends, max_sets, mode_rule}
+use Rattle.pre_script.specs.Rules.{name_rule, number_rule, order_rule, size_rule, word_rule, count_rule, after_rule}
 use Rattle.pre_script.specs.Seen.{Seen, nothing_seen, with_said, comes_last}
 use Rattle.pre_script.specs.Saying.{damage_said, four, lose_said, negotiates_at, one, three, two, said_by, send_said, send_of_size, set_said, setting_at, setting_of, until_said}
-use Rattle.pre_script.specs.Reading.{ReadsAs, after_line, after_lines, after_words, ended, is_comment, script_of, told, then_after, until_end}
+use Rattle.pre_script.specs.Reading.{ReadsAs, after_line, after_lines, after_words, ended, script_of, told, then_after, until_end}
 use Rattle.pre_script.specs.Fits.{Fits, IsDamage, IsLoss, IsSend, IsSet, SendsInOrder, SetsInOrder}
 use Rattle.pre_script.proofs.Values.{arc_known, both, number_below, octets_read}
 use Rattle.pre_base.proofs.NumberTests.{at_most, below}

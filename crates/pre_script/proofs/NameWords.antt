@@ -1,5 +1,7 @@
 -- The names of arcs and rows are words, and each is read as what it names.
-use Rattle.std.proofs.Common.{ℕ, zero, suc, ◌≤◌, ◌≡◌, ◌≢◌, ◌⊎◌, ◌&&◌, ◌<◌, Bool, true, false, List, [], ◌∷◌, ◌++◌, length, get_or, position, Some, refl, sym, ◌∙◌, ap, inl, inr, arith, subst, slice_get, IsTrue, nat_lt, nat_le}
+use Rattle.std.proofs.Common.{ℕ, zero, suc, ◌≤◌, ◌≡◌, ◌≢◌, ◌⊎◌, ◌&&◌, ◌<◌, Bool, true, false, List, [], ◌∷◌}
+use Rattle.std.proofs.Common.{◌++◌, length, get_or, position, Some, refl, sym, ◌∙◌, ap, inl, inr, arith, subst, slice_get, IsTrue, nat_lt}
+use Rattle.std.proofs.Common.{nat_le}
 use Rattle.std.specs.Option.{option_map_or}
 use Rattle.std.specs.List.{list_all, position_or_len}
 use Rattle.std.specs.Str.{bytes_eq}

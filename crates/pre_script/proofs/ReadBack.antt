@@ -1,5 +1,6 @@
 -- A script that fits is read back.
-use Rattle.std.proofs.Common.{◌≡◌, ℕ, ◌+◌, ◌^◌, ◌<◌, ◌≤◌, false, true, IsTrue, slice_get, List, [], ◌∷◌, ◌++◌, length, map, Option, Some, None, Ok, refl, sym, ◌∙◌, ap, append_assoc, arith, codes}
+use Rattle.std.proofs.Common.{◌≡◌, ℕ, ◌+◌, ◌^◌, ◌<◌, ◌≤◌, false, true, IsTrue, slice_get, List, [], ◌∷◌, ◌++◌}
+use Rattle.std.proofs.Common.{length, map, Option, Some, None, Ok, refl, sym, ◌∙◌, ap, append_assoc, arith, codes}
 use Rattle.std.specs.Fmt.{decimal}
 use Rattle.std.specs.Option.{option_map_or}
 use Rattle.std.proofs.lemmas.Bool.{false≢true}
@@ -29,7 +30,8 @@ use Rattle.pre_script.specs.Seen.{Seen, nothing_seen, with_said}
 use Rattle.pre_script.specs.Fits.{Fits, IsDamage, IsLoss, IsSend}
 use Rattle.pre_script.specs.Reading.{ended, script_of}
 use Rattle.pre_script.specs.Same.{IsSame}
-use Rattle.pre_script.specs.Text.{damage_line, damage_lines, loss_line, loss_lines, row_name, script_text, send_line, set_line, set_lines, setting_word, sets_before, sets_since, timed_lines, until_line}
+use Rattle.pre_script.specs.Text.{damage_line, damage_lines, loss_line, loss_lines, row_name, script_text, send_line, set_line, set_lines}
+use Rattle.pre_script.specs.Text.{setting_word, sets_before, sets_since, timed_lines, until_line}
 use Rattle.pre_script.proofs.Said.{damage_says, loss_says, nonempty_number, nonempty_pairs, send_says, set_says, until_says, until_small}
 use Rattle.pre_script.proofs.Steps.{block, rest_read, seen_after, step}
 use Rattle.pre_script.proofs.NameWords.{arc_some, arc_word, place_inside, row_read}

@@ -1,12 +1,13 @@
 -- The sends of a script that was read stand in the order of their lines.
-use Rattle.std.proofs.Common.{◌≡◌, ℕ, ◌+◌, ◌<◌, Bool, true, false, ◌&&◌, nat_le, nat_lt, codes, List, [], ◌∷◌, length, Option, Some, None, Result, Ok, Err, refl, subst, arith, if◌then◌else◌}
+use Rattle.std.proofs.Common.{◌≡◌, ℕ, ◌+◌, ◌<◌, Bool, true, false, ◌&&◌, nat_le, nat_lt, codes, List, [], ◌∷◌, length}
+use Rattle.std.proofs.Common.{Option, Some, None, Result, Ok, Err, refl, subst, arith, if◌then◌else◌}
 use Rattle.std.specs.Prelude.{All, AllPairs, is_some, slice_get}
 use Rattle.std.specs.List.{enumerate_from}
 use Rattle.std.specs.Str.{bytes_eq}
 use Rattle.std.proofs.lemmas.List.Elements.{All-push}
 use Rattle.std.proofs.lemmas.List.Quantifiers.{all_pairs_push}
 use Rattle.pre_base.specs.declared.numbers.Tick.{Tick}
-use Rattle.pre_text.specs.Words.{number_of, pairs_within}
+use Rattle.pre_text.specs.Words.{number_of, pairs_within, is_comment}
 use Rattle.pre_text.specs.Lines.{words_of, numbered_lines, lines_of}
 use Rattle.pre_topo.specs.declared.network.Network.{Network}
 use Rattle.pre_topo.specs.Named.{arc_named}
@@ -16,10 +17,11 @@ use Rattle.pre_script.specs.declared.scripts.Script.{Script}
 use Rattle.pre_script.specs.declared.scripts.SendLine.{SendLine}
 use Rattle.pre_script.specs.declared.saying.Said.{Said}
 use Rattle.pre_script.specs.declared.saying.Said.TheVariants as said
-use Rattle.pre_script.specs.Rules.{given, kept, horizon, horizon_rule, max_damaged, max_damages, max_losses, max_sends, max_sets, mode_rule, name_rule, number_rule, order_rule, size_rule, word_rule, count_rule, after_rule}
+use Rattle.pre_script.specs.Rules.{given, kept, horizon, horizon_rule, max_damaged, max_damages, max_losses, max_sends, max_sets, mode_rule}
+use Rattle.pre_script.specs.Rules.{name_rule, number_rule, order_rule, size_rule, word_rule, count_rule, after_rule}
 use Rattle.pre_script.specs.Seen.{Seen, nothing_seen, with_said, comes_last}
 use Rattle.pre_script.specs.Saying.{one, two, three, four, said_by, send_said, set_said, setting_at, lose_said, damage_said, until_said}
-use Rattle.pre_script.specs.Reading.{after_line, after_lines, after_words, ended, is_comment, script_of, told, then_after, until_end}
+use Rattle.pre_script.specs.Reading.{after_line, after_lines, after_words, ended, script_of, told, then_after, until_end}
 
 abbrev pub LinesRise : List SendLine → Type 0
 LinesRise sends = AllPairs (λ a b. a.line < b.line) sends

@@ -1,5 +1,7 @@
 -- What each line says, where it is written of a script that fits.
-use Rattle.std.proofs.Common.{◌≡◌, ℕ, ◌*◌, ◌^◌, ◌<◌, ◌≤◌, Bool, true, false, ◌&&◌, nat_le, nat_lt, min, if◌then◌else◌, List, [], ◌∷◌, length, Option, Some, None, Result, Ok, refl, ◌∙◌, ap, arith, slice_get, codes}
+use Rattle.std.proofs.Common.{◌≡◌, ℕ, ◌*◌, ◌^◌, ◌<◌, ◌≤◌, Bool, true, false, ◌&&◌, nat_le, nat_lt, min}
+use Rattle.std.proofs.Common.{if◌then◌else◌, List, [], ◌∷◌, length, Option, Some, None, Result, Ok, refl, ◌∙◌, ap, arith}
+use Rattle.std.proofs.Common.{slice_get, codes}
 use Rattle.std.specs.Fmt.{decimal}
 use Rattle.std.specs.List.{list_any}
 use Rattle.std.proofs.lemmas.Bool.Decides.{nat_tests}
@@ -20,7 +22,8 @@ use Rattle.pre_script.specs.declared.scripts.Setting.TheVariants.{On, Off, Gone}
 use Rattle.pre_script.specs.declared.scripts.Loss.{Loss}
 use Rattle.pre_script.specs.declared.scripts.Damage.{Damage}
 use Rattle.pre_script.specs.declared.saying.Said.TheVariants as said
-use Rattle.pre_script.specs.Rules.{given, kept, horizon, horizon_rule, max_damaged, max_damages, max_losses, max_sends, max_sets, mode_rule, name_rule, negotiates, number_rule, order_rule, size_rule, count_rule}
+use Rattle.pre_script.specs.Rules.{given, kept, horizon, horizon_rule, max_damaged, max_damages, max_losses, max_sends, max_sets, mode_rule}
+use Rattle.pre_script.specs.Rules.{name_rule, negotiates, number_rule, order_rule, size_rule, count_rule}
 use Rattle.pre_script.specs.Seen.{Seen, comes_last}
 use Rattle.pre_script.specs.Saying.{said_by, setting_at, setting_of}
 use Rattle.pre_script.specs.Fits.{IsDamage, IsLoss, IsSet}

@@ -11,7 +11,8 @@ use Rattle.pre_streams.specs.declared.rows.Streams.{Streams}
 use Rattle.pre_script.specs.declared.saying.Said.{Said}
 use Rattle.pre_script.specs.Seen.{Seen, with_said}
 use Rattle.pre_script.specs.Saying.{said_by}
-use Rattle.pre_script.specs.Reading.{after_line, after_lines, after_words, is_comment, then_after}
+use Rattle.pre_text.specs.Words.{is_comment}
+use Rattle.pre_script.specs.Reading.{after_line, after_lines, after_words, then_after}
 
 abbrev pub AreFilled : List (List ℕ) → Type 0
 AreFilled [] = Unit {0}

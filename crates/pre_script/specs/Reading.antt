@@ -1,5 +1,6 @@
 -- The script that a text spells, or its first fault.
 use Rattle.std.specs.Prelude.{◌≡◌, ℕ, ◌+◌, ◌==◌, Bool, false, List, [], ◌∷◌, length, Option, Some, None, Result, Ok, Err, is_some, if◌then◌else◌, ⊤}
+use Rattle.pre_text.specs.Words.{is_comment}
 use Rattle.pre_base.specs.declared.numbers.Tick.{Tick}
 use Rattle.pre_text.specs.Lines.{lines_of, numbered_lines, words_of}
 use Rattle.pre_topo.specs.declared.network.Network.{Network}
@@ -11,11 +12,6 @@ use Rattle.pre_script.specs.declared.saying.Said.{Said}
 use Rattle.pre_script.specs.Rules.{after_rule, end_rule}
 use Rattle.pre_script.specs.Seen.{Seen, nothing_seen, with_said}
 use Rattle.pre_script.specs.Saying.{said_by}
-
--- a comment begins with #
-abbrev pub is_comment : List ℕ → Bool
-is_comment [] = false
-is_comment (c ∷ cs) = c == 35
 
 -- a line's rule with the line
 abbrev pub told : ℕ → Seen → Result Said ℕ → Result Seen (ℕ × ℕ)

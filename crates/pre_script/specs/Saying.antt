@@ -14,7 +14,8 @@ use Rattle.pre_script.specs.declared.saying.Said.{Said}
 use Rattle.pre_script.specs.declared.saying.Said.TheVariants as said
 use Rattle.pre_script.specs.declared.saying.Refusal.{Refusal}
 use Rattle.pre_script.specs.declared.saying.Refusal.TheVariants.{Rule, Memory}
-use Rattle.pre_script.specs.Rules.{given, horizon, horizon_rule, kept, max_damaged, max_damages, max_losses, max_sends, max_sets, mode_rule, name_rule, negotiates, number_rule, order_rule, size_rule, word_rule, count_rule}
+use Rattle.pre_script.specs.Rules.{given, horizon, horizon_rule, kept, max_damaged, max_damages, max_losses, max_sends, max_sets, mode_rule}
+use Rattle.pre_script.specs.Rules.{name_rule, negotiates, number_rule, order_rule, size_rule, word_rule, count_rule}
 use Rattle.pre_script.specs.Seen.{Seen, comes_last}
 
 abbrev pub one : List (List ℕ) → Option (List ℕ)
@@ -23,25 +24,16 @@ one (a ∷ []) = Some a
 one (a ∷ b ∷ rest) = None
 
 abbrev pub two : List (List ℕ) → Option (List ℕ × List ℕ)
-two [] = None
-two (a ∷ []) = None
 two (a ∷ b ∷ []) = Some (a, b)
-two (a ∷ b ∷ c ∷ rest) = None
+two _ = None
 
 abbrev pub three : List (List ℕ) → Option (List ℕ × List ℕ × List ℕ)
-three [] = None
-three (a ∷ []) = None
-three (a ∷ b ∷ []) = None
 three (a ∷ b ∷ c ∷ []) = Some (a, b, c)
-three (a ∷ b ∷ c ∷ d ∷ rest) = None
+three _ = None
 
 abbrev pub four : List (List ℕ) → Option (List ℕ × List ℕ × List ℕ × List ℕ)
-four [] = None
-four (a ∷ []) = None
-four (a ∷ b ∷ []) = None
-four (a ∷ b ∷ c ∷ []) = None
 four (a ∷ b ∷ c ∷ d ∷ []) = Some (a, b, c, d)
-four (a ∷ b ∷ c ∷ d ∷ e ∷ rest) = None
+four _ = None
 
 abbrev pub send_of_size : Seen → Row → ℕ → ℕ → ℕ → ℕ → Result Said ℕ
 send_of_size seen row line tick stream size =

@@ -2,7 +2,7 @@ ghost use Rattle.std.specs.Prelude.{◌≡◌, ℕ, Result, ◌+◌, ◌^◌, �
 ghost use Rattle.pre_text.specs.Lines.{words_of};
 ghost use Rattle.pre_script.specs.Drafts.{seen, IsLatest};
 ghost use Rattle.pre_script.specs.Fits.{Fits};
-ghost use Rattle.pre_script.specs.Reading.{ReadsAs, LineReadsAs, after_line, is_comment, script_of, told};
+ghost use Rattle.pre_script.specs.Reading.{ReadsAs, LineReadsAs, after_line, script_of, told};
 ghost use Rattle.pre_script.specs.Saying.{SaysAs, said_by};
 
 use crate::drafts::Draft;
@@ -10,7 +10,7 @@ use crate::rules::AFTER_END;
 use crate::saying::{Refusal, Said, said_by};
 use crate::{Script, ScriptFault};
 use pre_streams::Streams;
-use pre_text::{Line, LineWords, Lines};
+use pre_text::{Line, LineWords, Lines, starts_comment};
 use pre_topo::Network;
 use std::alloc::Global;
 
@@ -69,15 +69,6 @@ fn read_line(
     }
     let said = said_by(alloc, draft, net, streams, line.number, first, &mut words);
     take_up(draft, line.number, said)
-}
-
-fn starts_comment(word: &[u8]) -> bool
-    ensures { result ≡ is_comment word.now }
-{
-    match word {
-        [b'#', ..] => true,
-        _ => false,
-    }
 }
 
 /// Takes up what the line says, or answers its fault.

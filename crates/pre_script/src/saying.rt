@@ -1,7 +1,8 @@
 ghost use Rattle.std.specs.Prelude.{◌≡◌, ℕ, Option, Some, None, IfOk, slice_get};
 ghost use Rattle.std.specs.Option.{option_map};
 ghost use Rattle.std.specs.Str.{bytes_eq};
-ghost use Rattle.pre_script.specs.Saying.{SaysAs, damage_of, damage_said, four, lose_said, one, said_by, send_of, send_of_size, send_said, set_of, set_said, setting_at, setting_of, three, two, until_said};
+ghost use Rattle.pre_script.specs.Saying.{SaysAs, damage_of, damage_said, four, lose_said, one, said_by, send_of, send_of_size, send_said, set_of};
+ghost use Rattle.pre_script.specs.Saying.{set_said, setting_at, setting_of, three, two, until_said};
 ghost use Rattle.pre_script.specs.Rules.{max_damaged};
 ghost use Rattle.pre_text.specs.Words.{pairs_within};
 ghost use Rattle.pre_script.specs.Drafts.{seen, IsLatest};

@@ -4,7 +4,8 @@ ghost use Rattle.pre_base.specs.Told.{WhereTold};
 ghost use Rattle.pre_base.specs.Sinks.{TakesAll};
 ghost use Rattle.pre_text.specs.Spelled.{spelled};
 ghost use Rattle.pre_topo.specs.Named.{arc_name};
-ghost use Rattle.pre_script.specs.Text.{damage_line, damage_lines, loss_line, loss_lines, row_name, script_text, send_line, set_line, set_lines, setting_word, sets_before, sets_since, timed_lines, until_line};
+ghost use Rattle.pre_script.specs.Text.{damage_line, damage_lines, loss_line, loss_lines, row_name, script_text, send_line, set_line, set_lines};
+ghost use Rattle.pre_script.specs.Text.{setting_word, sets_before, sets_since, timed_lines, until_line};
 
 use crate::{Damage, Loss, Script, SendLine, SetLine, Setting};
 use pre_base::{ArcId, Failed, Sink, StreamId, Tick};

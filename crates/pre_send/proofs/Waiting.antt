@@ -1,5 +1,6 @@
 -- An express frame that waits while an mPacket is under way.
-use Rattle.std.proofs.Common.{ℕ, ◌≡◌, ◌⊎◌, ◌≤◌, ◌<◌, ◌-◌, ◌%◌, List, [], ◌∷◌, ◌++◌, map, refl, sym, ◌∙◌, ap, ap₂, subst, arith, inl, inr, Option, Some, None, false}
+use Rattle.std.proofs.Common.{ℕ, ◌≡◌, ◌⊎◌, ◌≤◌, ◌<◌, ◌-◌, ◌%◌, List, [], ◌∷◌, ◌++◌, map, refl, sym}
+use Rattle.std.proofs.Common.{◌∙◌, ap, ap₂, subst, arith, inl, inr, Option, Some, None, false}
 use Rattle.std.specs.Prelude.{◌==◌, if◌then◌else◌, unwrap_or}
 use Rattle.std.proofs.lemmas.List.Sums.{fold-append}
 use Rattle.pre_crc.specs.Register as register

@@ -1,5 +1,6 @@
 -- For which calls so far a sender stands.
-use Rattle.std.specs.Prelude.{◌≡◌, ◌⊎◌, ℕ, ◌+◌, ◌*◌, ◌%◌, ◌<◌, ◌≤◌, Bool, true, false, List, [], ◌∷◌, map, Option, Some, None, nat_le, is_some, option_map, IsSome, ◌↔◌}
+use Rattle.std.specs.Prelude.{◌≡◌, ◌⊎◌, ℕ, ◌+◌, ◌*◌, ◌%◌, ◌<◌, ◌≤◌, Bool, true, false, List, [], ◌∷◌}
+use Rattle.std.specs.Prelude.{map, Option, Some, None, nat_le, is_some, option_map, IsSome, ◌↔◌}
 use Rattle.pre_base.specs.declared.numbers.Tick.{Tick}
 use Rattle.pre_base.specs.declared.limits.TheConstants.{LEAST_FRAME, GREATEST_FRAME, GAP}
 use Rattle.pre_crc.specs.Register as register

@@ -1,5 +1,6 @@
 -- Where an mPacket is due at the end of an arc, a slot is in for its frame, and there is room inside the bridge.
-use Rattle.std.proofs.Common.{ℕ, ◌≡◌, ◌≢◌, ◌+◌, ◌*◌, ◌/◌, ◌<◌, ◌≤◌, List, [], ◌∷◌, ◌++◌, length, drop, sym, ◌∙◌, ap, inl, inr, arith, subst, Option, Some, None, All, filter_map}
+use Rattle.std.proofs.Common.{ℕ, ◌≡◌, ◌≢◌, ◌+◌, ◌*◌, ◌/◌, ◌<◌, ◌≤◌, List, [], ◌∷◌, ◌++◌, length}
+use Rattle.std.proofs.Common.{drop, sym, ◌∙◌, ap, inl, inr, arith, subst, Option, Some, None, All, filter_map}
 use Rattle.std.specs.Prelude.{slice_get}
 use Rattle.std.specs.List.{cons_option, AllByRecursion as Every}
 use Rattle.std.specs.Option.{option_map_or}

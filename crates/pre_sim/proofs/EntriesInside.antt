@@ -1,5 +1,6 @@
 -- The frames inside the bridge at an arc's end: which of them come out at a tick, and which are left.
-use Rattle.std.proofs.Common.{ℕ, zero, suc, ◌≡◌, ◌≢◌, ◌⊎◌, ◌==◌, ◌&&◌, ◌+◌, ◌<◌, ◌≤◌, not, filter, Bool, true, false, List, [], ◌∷◌, ◌++◌, length, take, drop, refl, sym}
+use Rattle.std.proofs.Common.{ℕ, zero, suc, ◌≡◌, ◌≢◌, ◌⊎◌, ◌==◌, ◌&&◌, ◌+◌, ◌<◌, ◌≤◌, not, filter, Bool}
+use Rattle.std.proofs.Common.{true, false, List, [], ◌∷◌, ◌++◌, length, take, drop, refl, sym}
 use Rattle.std.proofs.Common.{◌∙◌, ap, inl, inr, arith, subst, Option, Some, None, map, filter_map}
 use Rattle.std.specs.Prelude.{slice_get, if◌then◌else◌, option_map, option_and_then}
 use Rattle.std.specs.List.{cons_option, AllByRecursion as Every}

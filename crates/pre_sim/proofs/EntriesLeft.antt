@@ -1,5 +1,6 @@
 -- The end of a tick's entries: what bridges handed on has left them, and what waits is what came.
-use Rattle.std.proofs.Common.{ℕ, zero, suc, ◌≡◌, ◌==◌, ◌∙◌, ◌+◌, ◌*◌, ◌-◌, ◌<◌, ◌≤◌, not, false, List, [], ◌∷◌, ◌++◌, length, filter, refl, sym, ap, arith, subst, None, append_assoc}
+use Rattle.std.proofs.Common.{ℕ, zero, suc, ◌≡◌, ◌==◌, ◌∙◌, ◌+◌, ◌*◌, ◌-◌, ◌<◌, ◌≤◌, not, false, List, []}
+use Rattle.std.proofs.Common.{◌∷◌, ◌++◌, length, filter, refl, sym, ap, arith, subst, None, append_assoc}
 use Rattle.std.specs.Prelude.{slice_get, replicate}
 use Rattle.std.proofs.Math.Nat.{mul-le-mul_right}
 use Rattle.std.proofs.lemmas.List.{replicate_more}

@@ -1,5 +1,6 @@
 -- The frames that come to a ring at a tick are those that bridges hand on, and those of its sends.
-use Rattle.std.proofs.Common.{ℕ, zero, suc, ◌≡◌, ◌==◌, ◌+◌, ◌<◌, ◌≤◌, true, false, List, [], ◌∷◌, ◌++◌, length, drop, map, refl, sym, ◌∙◌, ap, arith, filter_map, flat_map, append_assoc}
+use Rattle.std.proofs.Common.{ℕ, zero, suc, ◌≡◌, ◌==◌, ◌+◌, ◌<◌, ◌≤◌, true, false, List, [], ◌∷◌, ◌++◌, length}
+use Rattle.std.proofs.Common.{drop, map, refl, sym, ◌∙◌, ap, arith, filter_map, flat_map, append_assoc}
 use Rattle.std.specs.Prelude.{slice_index_or}
 use Rattle.std.proofs.lemmas.List.{map-append, length-append, take_all, flat_map_more}
 use Rattle.pre_script.specs.declared.scripts.SendLine.{SendLine}

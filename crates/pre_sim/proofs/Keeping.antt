@@ -1,6 +1,7 @@
 -- Each frame keeps a slot of its own, and no other slot is out, as frames come and go.
 use Rattle.std.proofs.Common.{length-append}
-use Rattle.std.proofs.Common.{ℕ, zero, suc, ◌≡◌, ◌≢◌, ◌==◌, Bool, true, false, ◌+◌, ◌<◌, ◌≤◌, List, [], ◌∷◌, ◌++◌, length, map, replicate, refl, sym, ◌∙◌, ap, arith, subst, Option, Some, None}
+use Rattle.std.proofs.Common.{ℕ, zero, suc, ◌≡◌, ◌≢◌, ◌==◌, Bool, true, false, ◌+◌, ◌<◌, ◌≤◌, List, [], ◌∷◌}
+use Rattle.std.proofs.Common.{◌++◌, length, map, replicate, refl, sym, ◌∙◌, ap, arith, subst, Option, Some, None}
 use Rattle.std.specs.Prelude.{slice_get, slice_index_or, set}
 use Rattle.std.proofs.Math.ListN.{length-set}
 use Rattle.std.proofs.lemmas.List.Folds.{sum_by-replicate}

@@ -1,5 +1,6 @@
 -- Elements of lists by their places, and what each of a list gives.
-use Rattle.std.proofs.Common.{ℕ, zero, suc, ◌≡◌, ◌≢◌, ◌<◌, ◌≤◌, ◌+◌, Bool, true, false, cond, List, [], ◌∷◌, ◌++◌, length, take, drop, refl, sym, ◌∙◌, ap, arith, subst, Some, None, filter}
+use Rattle.std.proofs.Common.{ℕ, zero, suc, ◌≡◌, ◌≢◌, ◌<◌, ◌≤◌, ◌+◌, Bool, true, false, cond, List, [], ◌∷◌}
+use Rattle.std.proofs.Common.{◌++◌, length, take, drop, refl, sym, ◌∙◌, ap, arith, subst, Some, None, filter}
 use Rattle.std.specs.Prelude.{slice_get, set, count_by}
 use Rattle.std.specs.List.{sum_by, remove, AllByRecursion as Every}
 use Rattle.std.proofs.lemmas.List.{append-nil, take_at}

@@ -1,5 +1,6 @@
 -- What the script sets at a tick, line by line.
-use Rattle.std.proofs.Common.{ℕ, zero, suc, ◌≡◌, ◌≢◌, ◌==◌, ◌&&◌, ◌+◌, ◌<◌, ◌≤◌, nat_le, Bool, true, false, List, [], ◌∷◌, ◌++◌, length, map, filter, take, drop, refl}
+use Rattle.std.proofs.Common.{ℕ, zero, suc, ◌≡◌, ◌≢◌, ◌==◌, ◌&&◌, ◌+◌, ◌<◌, ◌≤◌, nat_le, Bool, true, false}
+use Rattle.std.proofs.Common.{List, [], ◌∷◌, ◌++◌, length, map, filter, take, drop, refl}
 use Rattle.std.proofs.Common.{sym, ◌∙◌, ap, inl, inr, arith, subst, Option, Some, None, append_assoc}
 use Rattle.std.specs.Prelude.{slice_get, slice_index_or, set, count_by, All, unwrap_or, IsTrue, cond}
 use Rattle.std.specs.Option.{option_map_or}

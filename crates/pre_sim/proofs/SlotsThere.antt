@@ -1,5 +1,6 @@
 -- A slot is in for each frame that is sent, and for each that arrives where there is room.
-use Rattle.std.proofs.Common.{ℕ, ◌≡◌, ◌<◌, ◌≤◌, ◌==◌, false, List, [], ◌∷◌, ◌++◌, length, map, refl, ◌∙◌, ap, arith, subst, Option, Some, None, All, length-append}
+use Rattle.std.proofs.Common.{ℕ, ◌≡◌, ◌<◌, ◌≤◌, ◌==◌, false, List, [], ◌∷◌, ◌++◌, length, map, refl, ◌∙◌, ap}
+use Rattle.std.proofs.Common.{arith, subst, Option, Some, None, All, length-append}
 use Rattle.std.specs.Prelude.{slice_get, sum}
 use Rattle.std.specs.List.{sum_by, AllByRecursion as Every}
 use Rattle.std.proofs.lemmas.Bool.{ne_eqb}

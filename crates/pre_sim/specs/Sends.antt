@@ -1,5 +1,6 @@
 -- What becomes of frames that come to rings, one after another.
-use Rattle.std.specs.Prelude.{ℕ, zero, suc, ◌+◌, ◌<◌, ◌≤◌, ◌≡◌, ◌≢◌, min, Bool, true, false, List, [], ◌∷◌, ◌++◌, length, map, take, count_by, replicate, Contains, Some, slice_get}
+use Rattle.std.specs.Prelude.{ℕ, zero, suc, ◌+◌, ◌<◌, ◌≤◌, ◌≡◌, ◌≢◌, min, Bool, true, false, List, [], ◌∷◌}
+use Rattle.std.specs.Prelude.{◌++◌, length, map, take, count_by, replicate, Contains, Some, slice_get}
 use Rattle.std.specs.List.{AllByRecursion as Every}
 use Rattle.pre_rings.specs.declared.slots.FrameRef.{FrameRef}
 use Rattle.pre_history.specs.Scenario.{Scenario}

@@ -1,5 +1,6 @@
 -- What the state of a run says of the events told so far, at each place of a tick.
-use Rattle.std.specs.Prelude.{ℕ, ◌+◌, ◌*◌, ◌<◌, ◌≤◌, ◌≡◌, ◌≢◌, ◌==◌, ◌&&◌, nat_le, not, Bool, if◌then◌else◌, List, [], ◌∷◌, length, map, filter, filter_map, take, drop}
+use Rattle.std.specs.Prelude.{ℕ, ◌+◌, ◌*◌, ◌<◌, ◌≤◌, ◌≡◌, ◌≢◌, ◌==◌, ◌&&◌, nat_le, not, Bool}
+use Rattle.std.specs.Prelude.{if◌then◌else◌, List, [], ◌∷◌, length, map, filter, filter_map, take, drop}
 use Rattle.std.specs.Prelude.{count_by, Option, Some, None, slice_get, option_map, option_and_then}
 use Rattle.std.specs.List.{list_any, AllByRecursion as Every}
 use Rattle.pre_topo.specs.declared.arcs.Mode.TheVariants as mode

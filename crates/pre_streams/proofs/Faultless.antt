@@ -1,5 +1,7 @@
 -- Raw rows without a fault.
-use Rattle.std.proofs.Common.{◌≡◌, ℕ, ◌+◌, ◌<◌, true, false, not, ◌&&◌, List, [], ◌∷◌, length, take, get_or, slice_get, Option, Some, None, option_map, option_and_then, is_some, position, All, AllPairs, nat_le, refl, sym, ◌∙◌, ap, arith, IsTrue, subst}
+use Rattle.std.proofs.Common.{◌≡◌, ℕ, ◌+◌, ◌<◌, true, false, not, ◌&&◌, List, [], ◌∷◌, length, take, get_or, slice_get, Option}
+use Rattle.std.proofs.Common.{Some, None, option_map, option_and_then, is_some, position, All, AllPairs, nat_le, refl, sym, ◌∙◌, ap, arith, IsTrue}
+use Rattle.std.proofs.Common.{subst}
 use Rattle.std.specs.List.{list_any}
 use Rattle.std.specs.Option.{option_map_or}
 use Rattle.std.specs.Str.{bytes_eq}
@@ -13,7 +15,9 @@ use Rattle.pre_topo.specs.declared.network.Network.{Network}
 use Rattle.pre_streams.specs.declared.faults.StreamFault.TheVariants.{Count}
 use Rattle.pre_streams.specs.declared.raw.RawStreams.{RawStreams}
 use Rattle.pre_streams.specs.declared.raw.RawFlow.{RawFlow}
-use Rattle.pre_streams.specs.FileRules.{name_breaks, name_fault, is_named, entry_breaks, other_route, hop_fault, route_fault, class_breaks, class_fault, row_in_range, curve_in_range, is_carried, range_breaks, range_fault, burst_breaks, burst_fault, counts_hold, raw_fault}
+use Rattle.pre_streams.specs.FileRules.{name_breaks, name_fault, is_named, entry_breaks, other_route, hop_fault, route_fault, class_breaks}
+use Rattle.pre_streams.specs.FileRules.{class_fault, row_in_range, curve_in_range, is_carried, range_breaks, range_fault, burst_breaks}
+use Rattle.pre_streams.specs.FileRules.{burst_fault, counts_hold, raw_fault}
 use Rattle.pre_streams.specs.Holds.{Holds}
 use Rattle.pre_table.proofs.NoFaults.{first_none, map_none, unless_none, none_passes, none_breaks, none_before}
 

@@ -1,5 +1,7 @@
 -- The first place in a list that passes a test, and the first row that breaks a rule which doesn't depend on its place.
-use Rattle.std.proofs.Common.{◌≡◌, ℕ, zero, suc, ◌<◌, ◌≤◌, Bool, true, false, cond, nat_lt, List, [], ◌∷◌, ◌++◌, length, get_or, take, Option, Some, None, refl, sym, ◌∙◌, ap, arith, slice_get, unwrap_or, option_map, position}
+use Rattle.std.proofs.Common.{◌≡◌, ℕ, zero, suc, ◌<◌, ◌≤◌, Bool, true, false, cond, nat_lt, List, [], ◌∷◌, ◌++◌}
+use Rattle.std.proofs.Common.{length, get_or, take, Option, Some, None, refl, sym, ◌∙◌, ap, arith, slice_get, unwrap_or, option_map}
+use Rattle.std.proofs.Common.{position}
 use Rattle.std.specs.List.{find, position_or_len}
 use Rattle.std.specs.Option.{option_or}
 use Rattle.std.proofs.lemmas.List.Sums.{position_or_len_is}

@@ -1,5 +1,8 @@
 -- Rows that raw rows without a fault make fit the network.
-use Rattle.std.proofs.Common.{◌≡◌, ◌≢◌, ℕ, zero, suc, ◌+◌, ◌-◌, ◌<◌, ◌≤◌, ◌^◌, ◌==◌, Bool, true, false, not, ◌&&◌, ◌||◌, List, [], ◌∷◌, length, map, get_or, slice_get, max, Option, Some, None, is_some, is_none, IsNone, IfSome, option_map, All, AllPairs, count_by, nat_le, nat_lt, cond, if◌then◌else◌, refl, sym, ◌∙◌, ap, subst, arith, IsTrue, zero-add}
+use Rattle.std.proofs.Common.{◌≡◌, ◌≢◌, ℕ, zero, suc, ◌+◌, ◌-◌, ◌<◌, ◌≤◌, ◌^◌, ◌==◌, Bool, true, false, not}
+use Rattle.std.proofs.Common.{◌&&◌, ◌||◌, List, [], ◌∷◌, length, map, get_or, slice_get, max, Option, Some, None, is_some, is_none}
+use Rattle.std.proofs.Common.{IsNone, IfSome, option_map, All, AllPairs, count_by, nat_le, nat_lt, cond, if◌then◌else◌, refl, sym, ◌∙◌}
+use Rattle.std.proofs.Common.{ap, subst, arith, IsTrue, zero-add}
 use Rattle.std.specs.List.{find, common_prefix_len, enumerate_from}
 use Rattle.std.specs.Option.{option_map_or}
 use Rattle.std.specs.Str.{bytes_eq}

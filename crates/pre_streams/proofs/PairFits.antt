@@ -1,5 +1,7 @@
 -- The built-in streams fit the built-in network.
-use Rattle.std.proofs.Common.{◌≡◌, ◌≢◌, ℕ, zero, suc, ◌+◌, ◌<◌, ◌≤◌, List, [], ◌∷◌, codes, slice_index_or, slice_get, Some, None, IsNone, unwrap_or, count_by, is_some, is_none, All, AllPairs, refl, sym, ◌∙◌, ap, subst, arith, lit≤}
+use Rattle.std.proofs.Common.{◌≡◌, ◌≢◌, ℕ, zero, suc, ◌+◌, ◌<◌, ◌≤◌, List, [], ◌∷◌, codes, slice_index_or}
+use Rattle.std.proofs.Common.{slice_get, Some, None, IsNone, unwrap_or, count_by, is_some, is_none, All, AllPairs, refl, sym, ◌∙◌, ap, subst}
+use Rattle.std.proofs.Common.{arith, lit≤}
 use Rattle.std.proofs.lemmas.Bool.{true≢false, false≢true}
 use Rattle.std.proofs.lemmas.Option.{none-some, same_Some}
 use Rattle.pre_base.specs.declared.numbers.NodeId.{NodeId}

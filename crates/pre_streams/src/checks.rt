@@ -2,7 +2,9 @@ ghost use Rattle.std.specs.Prelude.{◌≡◌, ◌<◌, length, slice_get, true,
 ghost use Rattle.std.specs.Option.{option_map_or};
 ghost use Rattle.pre_base.specs.declared.limits.TheConstants.{OVERHEAD};
 ghost use Rattle.pre_table.specs.FirstFaults.{first_row};
-ghost use Rattle.pre_streams.specs.FileRules.{name_breaks, row_at, bad_route, class_rule, class_breaks, length_in_range, curve_in_range, row_in_range, is_carried, range_breaks, burst_breaks, name_fault, route_fault, class_fault, range_fault, burst_fault, counts_hold, raw_fault};
+ghost use Rattle.pre_streams.specs.FileRules.{name_breaks, row_at, bad_route, class_rule, class_breaks, length_in_range, curve_in_range, row_in_range};
+ghost use Rattle.pre_streams.specs.FileRules.{is_carried, range_breaks, burst_breaks, name_fault, route_fault, class_fault, range_fault, burst_fault};
+ghost use Rattle.pre_streams.specs.FileRules.{counts_hold, raw_fault};
 
 use crate::StreamFault;
 use crate::arc_rules::{ArcRule, holds_along};

@@ -1,5 +1,6 @@
 -- The elements of an array, and each of them read.
-use Rattle.std.proofs.Common.{◌≡◌, ℕ, zero, suc, ◌<◌, List, [], ◌∷◌, length, map, take, get_or, Option, Some, None, option_map, option_and_then, refl, sym, ◌∙◌, ap, arith, set, ◌+◌}
+use Rattle.std.proofs.Common.{◌≡◌, ℕ, zero, suc, ◌<◌, List, [], ◌∷◌, length, map, take, get_or, Option, Some, None, option_map}
+use Rattle.std.proofs.Common.{option_and_then, refl, sym, ◌∙◌, ap, arith, set, ◌+◌}
 use Rattle.std.proofs.lemmas.List.{get_or-map, length-map, map_push, take_more, take_more_set}
 use Rattle.toml.specs.Data.{Data}
 use Rattle.toml.specs.View.{items_of}

@@ -1,7 +1,8 @@
 -- What holds where there is no first fault.
 use Rattle.std.specs.Prelude.{not, position, All, IsTrue, slice_index_or}
 use Rattle.std.specs.List.{position_or_len, enumerate_from, list_any}
-use Rattle.std.proofs.Common.{◌≡◌, ℕ, zero, suc, ◌<◌, Bool, true, false, List, [], ◌∷◌, length, take, Option, Some, None, option_map, nat_lt, refl, sym, ◌∙◌, ap, subst, cond, zero-add}
+use Rattle.std.proofs.Common.{◌≡◌, ℕ, zero, suc, ◌<◌, Bool, true, false, List, [], ◌∷◌, length, take, Option, Some, None}
+use Rattle.std.proofs.Common.{option_map, nat_lt, refl, sym, ◌∙◌, ap, subst, cond, zero-add}
 use Rattle.std.proofs.Math.Nat.{le_trans, not-suc-le-zero, le_of_suc-le-suc}
 use Rattle.std.proofs.lemmas.Bool.{not-false, or_parts, ltb-false}
 use Rattle.std.proofs.lemmas.Option.{none-some}

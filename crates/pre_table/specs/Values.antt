@@ -1,5 +1,6 @@
 -- What stands at the keys of a table, read as its kind.
-use Rattle.std.specs.Prelude.{ℕ, ℤ, pos, negsuc, Bool, true, false, List, [], ◌∷◌, length, ◌==◌, ◌&&◌, nat_le, nat_lt, Option, Some, None, option_map, option_and_then, if◌then◌else◌}
+use Rattle.std.specs.Prelude.{ℕ, ℤ, pos, negsuc, Bool, true, false, List, [], ◌∷◌, length, ◌==◌, ◌&&◌, nat_le, nat_lt, Option}
+use Rattle.std.specs.Prelude.{Some, None, option_map, option_and_then, if◌then◌else◌}
 use Rattle.std.specs.List.{list_all}
 use Rattle.std.specs.Option.{option_map_or}
 use Rattle.toml.specs.Data.{Data, table, Items, no_items, item, Members, get_member, as_str, as_integer, as_array}

@@ -1,5 +1,6 @@
 -- What a word is read as.
-use Rattle.std.specs.Prelude.{ℕ, Bool, false, ◌+◌, ◌*◌, ◌%◌, ◌^◌, ◌==◌, ◌&&◌, ◌||◌, not, List, [], ◌∷◌, length, Option, None, Some, nat_lt, nat_le, if◌then◌else◌}
+use Rattle.std.specs.Prelude.{ℕ, Bool, false, ◌+◌, ◌*◌, ◌%◌, ◌^◌, ◌==◌, ◌&&◌, ◌||◌, not, List, [], ◌∷◌, length}
+use Rattle.std.specs.Prelude.{Option, None, Some, nat_lt, nat_le, if◌then◌else◌}
 use Rattle.std.specs.Char.{digit_value, is_ascii_digit, is_ascii_hexdigit, is_ascii_uppercase, is_ascii_lowercase}
 use Rattle.std.specs.List.{list_all}
 use Rattle.std.specs.Str.Parse.{digits_value}
@@ -35,3 +36,8 @@ pair_octets (high ∷ low ∷ rest) = (16 * digit_value high + digit_value low) 
 -- the octets that a word of pairs spells, where there are at most this many
 abbrev pub pairs_within : ℕ → List ℕ → Option (List ℕ)
 pairs_within room word = if are_pairs word && nat_le (length (pair_octets word)) room then Some (pair_octets word) else None
+
+-- it begins with #: what stands behind it in its line is a comment
+abbrev pub is_comment : List ℕ → Bool
+is_comment [] = false
+is_comment (c ∷ cs) = c == 35

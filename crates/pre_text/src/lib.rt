@@ -10,7 +10,7 @@ pub use cutting::{Line, LineWords, Lines};
 pub use laws::{
     lines_read_back, names_are_words, numbers_read_back, one_reading, pairs_read_back, parts_join,
 };
-pub use values::{hex_pairs, name, number};
+pub use values::{hex_pairs, name, number, starts_comment};
 pub use writing::{Word, put_hex, put_line, put_number, put_word};
 
 #[cfg(test)]
@@ -43,6 +43,8 @@ mod tests {
         assert_eq!(rt; number(b"0"), Some(0));
         assert_eq!(rt; number(b"07"), None);
         assert!(rt; name(b"a-b_c.9"));
+        assert!(rt; starts_comment(b"#x"));
+        assert!(rt; !starts_comment(b"x#"));
         assert!(rt; !name(b"a>b"));
         let mut into = [7u8; 4];
         assert_eq!(rt; hex_pairs(b"0aFf", &mut into), Some(2));

@@ -2,7 +2,7 @@ ghost use Rattle.std.specs.Prelude.{◌≡◌, ◌+◌, ◌*◌, ◌<◌, ◌++�
 ghost use Rattle.std.specs.Char.{digit_value, is_ascii_digit, is_ascii_hexdigit};
 ghost use Rattle.std.specs.List.{list_all};
 ghost use Rattle.std.specs.Option.{option_map, option_map_or};
-ghost use Rattle.pre_text.specs.Words.{are_pairs, is_name, is_name_octet, is_plain, number_of, pair_octets, pairs_within};
+ghost use Rattle.pre_text.specs.Words.{are_pairs, is_comment, is_name, is_name_octet, is_plain, number_of, pair_octets, pairs_within};
 
 /// The number that a word spells: `0`, or digits that don't begin with 0. None exactly where it spells none that fits.
 pub fn number(word: &[u8]) -> Option<u64>
@@ -53,6 +53,16 @@ fn is_in_name(c: u8) -> bool
 {
     match c {
         b'a'..=b'z' | b'A'..=b'Z' | b'0'..=b'9' | b'-' | b'.' | b'_' => true,
+        _ => false,
+    }
+}
+
+/// Whether a word begins with `#`: what stands behind it in its line is a comment.
+pub fn starts_comment(word: &[u8]) -> bool
+    ensures { result ≡ is_comment word.now }
+{
+    match word {
+        [b'#', ..] => true,
         _ => false,
     }
 }

@@ -1,5 +1,7 @@
 -- Arcs that are made of links without a fault.
-use Rattle.std.proofs.Common.{◌≡◌, ◌≢◌, ℕ, zero, suc, ◌+◌, ◌*◌, ◌<◌, ◌≤◌, ◌^◌, Bool, true, false, ◌&&◌, List, [], ◌∷◌, length, map, get_or, slice_get, Option, Some, None, unwrap_or, All, AllPairs, is_some, refl, sym, ◌∙◌, ap, arith, IsTrue}
+use Rattle.std.proofs.Common.{◌≡◌, ◌≢◌, ℕ, zero, suc, ◌+◌, ◌*◌, ◌<◌, ◌≤◌, ◌^◌, Bool, true, false, ◌&&◌, List, []}
+use Rattle.std.proofs.Common.{◌∷◌, length, map, get_or, slice_get, Option, Some, None, unwrap_or, All, AllPairs, is_some, refl, sym, ◌∙◌, ap}
+use Rattle.std.proofs.Common.{arith, IsTrue}
 use Rattle.std.specs.List.{list_any, list_all, position_or_len}
 use Rattle.std.specs.Option.{option_map_or}
 use Rattle.std.specs.Str.{bytes_eq}

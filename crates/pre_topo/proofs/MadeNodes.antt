@@ -1,5 +1,6 @@
 -- Numbers in range, and nodes that are made of rows without a fault.
-use Rattle.std.proofs.Common.{◌≡◌, ◌≢◌, ℕ, ◌<◌, ◌≤◌, ◌^◌, false, ◌&&◌, List, length, get_or, Option, Some, None, All, AllPairs, nat_le, sym, ◌∙◌, ap, arith, IsTrue, unwrap_or}
+use Rattle.std.proofs.Common.{◌≡◌, ◌≢◌, ℕ, ◌<◌, ◌≤◌, ◌^◌, false, ◌&&◌, List, length, get_or, Option, Some, None}
+use Rattle.std.proofs.Common.{All, AllPairs, nat_le, sym, ◌∙◌, ap, arith, IsTrue, unwrap_or}
 use Rattle.std.specs.Option.{option_map_or}
 use Rattle.std.specs.Str.{bytes_eq}
 use Rattle.std.proofs.lemmas.Bool.{and_parts, leb-true, true≢false}

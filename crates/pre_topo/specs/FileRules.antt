@@ -1,5 +1,6 @@
 -- The rules of a network file over its raw rows, and the first fault.
-use Rattle.std.specs.Prelude.{ℕ, Bool, true, false, not, ◌&&◌, ◌||◌, ◌^◌, List, [], ◌∷◌, length, map, take, codes, nat_le, Option, Some, None, is_some, option_map, position, sum_by, if◌then◌else◌}
+use Rattle.std.specs.Prelude.{ℕ, Bool, true, false, not, ◌&&◌, ◌||◌, ◌^◌, List, [], ◌∷◌, length, map, take, codes, nat_le}
+use Rattle.std.specs.Prelude.{Option, Some, None, is_some, option_map, position, sum_by, if◌then◌else◌}
 use Rattle.std.specs.List.{list_all, list_any}
 use Rattle.std.specs.Option.{option_map_or}
 use Rattle.std.specs.Str.{bytes_eq}

@@ -1,5 +1,6 @@
 -- What is written for an event is read as that event.
-use Rattle.std.proofs.Common.{ℕ, ◌≡◌, ◌&&◌, ◌<◌, ◌^◌, Bool, true, false, List, [], ◌∷◌, ◌++◌, length, refl, sym, ◌∙◌, ap, Result, Ok, Err, codes, if◌then◌else◌, append_assoc, filter}
+use Rattle.std.proofs.Common.{ℕ, ◌≡◌, ◌&&◌, ◌<◌, ◌^◌, Bool, true, false, List, [], ◌∷◌, ◌++◌, length, refl, sym}
+use Rattle.std.proofs.Common.{◌∙◌, ap, Result, Ok, Err, codes, if◌then◌else◌, append_assoc, filter}
 use Rattle.std.specs.List.{list_all}
 use Rattle.std.specs.Fmt.{decimal}
 use Rattle.std.proofs.lemmas.List.{append_cancel_right}

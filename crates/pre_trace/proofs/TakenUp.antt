@@ -1,5 +1,6 @@
 -- One more event in the figures of a history.
-use Rattle.std.proofs.Common.{ℕ, suc, ◌≡◌, ◌≢◌, ◌==◌, ◌||◌, ◌+◌, ◌-◌, ◌<◌, ◌≤◌, ◌^◌, nat_lt, Bool, true, false, List, [], ◌∷◌, ◌++◌, length, map, filter, filter_map, fold, take, min, max}
+use Rattle.std.proofs.Common.{ℕ, suc, ◌≡◌, ◌≢◌, ◌==◌, ◌||◌, ◌+◌, ◌-◌, ◌<◌, ◌≤◌, ◌^◌, nat_lt, Bool}
+use Rattle.std.proofs.Common.{true, false, List, [], ◌∷◌, ◌++◌, length, map, filter, filter_map, fold, take, min, max}
 use Rattle.std.proofs.Common.{replicate, refl, sym, ◌∙◌, ap, arith, subst, None, if◌then◌else◌, length-append, All, AllPairs}
 use Rattle.std.specs.Prelude.{slice_set, slice_index_or, ◌^◌}
 use Rattle.std.proofs.Math.Seq.{get_or-append_seam, take-suc-set}

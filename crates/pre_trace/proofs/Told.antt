@@ -1,5 +1,6 @@
 -- What a line is read as is written as that line.
-use Rattle.std.proofs.Common.{ℕ, ◌≡◌, ◌^◌, Bool, true, false, List, [], ◌∷◌, ◌++◌, refl, sym, ◌∙◌, ap, arith, subst, Option, Some, None, Result, Ok, Err, codes, if◌then◌else◌, append_assoc, filter}
+use Rattle.std.proofs.Common.{ℕ, ◌≡◌, ◌^◌, Bool, true, false, List, [], ◌∷◌, ◌++◌, refl, sym, ◌∙◌, ap, arith, subst}
+use Rattle.std.proofs.Common.{Option, Some, None, Result, Ok, Err, codes, if◌then◌else◌, append_assoc, filter}
 use Rattle.std.specs.List.{list_all, join_with_byte}
 use Rattle.std.specs.Str.{bytes_eq}
 use Rattle.std.specs.Fmt.{decimal}

@@ -1,5 +1,6 @@
 -- What a summary keeps of the events that it took.
-use Rattle.std.specs.Prelude.{ℕ, ◌≡◌, ◌<◌, ◌≤◌, ◌+◌, ◌-◌, ◌^◌, List, length, min, max, map, take, Option, Some, None, slice_get, slice_set, slice_index_or, nat_lt, if◌then◌else◌}
+use Rattle.std.specs.Prelude.{ℕ, ◌≡◌, ◌<◌, ◌≤◌, ◌+◌, ◌-◌, ◌^◌, List, length, min, max, map, take, Option, Some, None}
+use Rattle.std.specs.Prelude.{slice_get, slice_set, slice_index_or, nat_lt, if◌then◌else◌}
 use Rattle.pre_script.specs.declared.scripts.Script.{Script}
 use Rattle.pre_script.specs.declared.scripts.SendLine.{SendLine}
 use Rattle.pre_history.specs.History.{PlainEvent, History}

@@ -1,5 +1,6 @@
 -- What a word of a trace is read as.
-use Rattle.std.specs.Prelude.{ℕ, Bool, true, false, ◌==◌, ◌&&◌, ◌||◌, ◌-◌, ◌^◌, List, [], ◌∷◌, length, codes, Option, Some, None, nat_le, nat_lt, position, option_and_then, option_map, if◌then◌else◌}
+use Rattle.std.specs.Prelude.{ℕ, Bool, true, false, ◌==◌, ◌&&◌, ◌||◌, ◌-◌, ◌^◌, List, [], ◌∷◌, length, codes, Option}
+use Rattle.std.specs.Prelude.{Some, None, nat_le, nat_lt, position, option_and_then, option_map, if◌then◌else◌}
 use Rattle.std.specs.List.{list_all}
 use Rattle.std.specs.Char.{is_ascii_digit}
 use Rattle.std.specs.Str.{bytes_eq}
@@ -19,23 +20,12 @@ has_single_spaces line = list_all is_nonempty (cut_at 32 line)
 
 -- exactly five words, and exactly six
 abbrev pub five : List (List ℕ) → Option (List ℕ × List ℕ × List ℕ × List ℕ × List ℕ)
-five [] = None
-five (a ∷ []) = None
-five (a ∷ b ∷ []) = None
-five (a ∷ b ∷ c ∷ []) = None
-five (a ∷ b ∷ c ∷ d ∷ []) = None
 five (a ∷ b ∷ c ∷ d ∷ e ∷ []) = Some (a, b, c, d, e)
-five (a ∷ b ∷ c ∷ d ∷ e ∷ f ∷ rest) = None
+five _ = None
 
 abbrev pub six : List (List ℕ) → Option (List ℕ × List ℕ × List ℕ × List ℕ × List ℕ × List ℕ)
-six [] = None
-six (a ∷ []) = None
-six (a ∷ b ∷ []) = None
-six (a ∷ b ∷ c ∷ []) = None
-six (a ∷ b ∷ c ∷ d ∷ []) = None
-six (a ∷ b ∷ c ∷ d ∷ e ∷ []) = None
 six (a ∷ b ∷ c ∷ d ∷ e ∷ f ∷ []) = Some (a, b, c, d, e, f)
-six (a ∷ b ∷ c ∷ d ∷ e ∷ f ∷ g ∷ rest) = None
+six _ = None
 
 -- the number that a word spells, where it is below the limit
 abbrev pub number_below : ℕ → List ℕ → Option ℕ
@@ -61,12 +51,10 @@ count_of c = if nat_le 48 c && nat_le c 51 then Some (c - 48) else None
 
 -- E, V or R; S and the frame count; C, the frame count, a point and the fragment count
 abbrev pub kind_of : List ℕ → Option Kind
-kind_of [] = None
 kind_of (k ∷ []) = if k == 69 then Some kind.Express else if k == 86 then Some kind.Verify else if k == 82 then Some kind.Respond else None
 kind_of (k ∷ c ∷ []) = if k == 83 then option_map kind.Start (count_of c) else None
-kind_of (k ∷ c ∷ p ∷ []) = None
 kind_of (k ∷ c ∷ p ∷ f ∷ []) = if (k == 67) && (p == 46) then option_and_then (λ count. option_map (kind.Continue count) (count_of f)) (count_of c) else None
-kind_of (k ∷ c ∷ p ∷ f ∷ g ∷ rest) = None
+kind_of _ = None
 
 abbrev pub what_of : List ℕ → Option What
 what_of word =

@@ -1,5 +1,6 @@
 -- What a list of calls of a verifier tells of ticks, and what follows from it.
-use Rattle.std.specs.Prelude.{◌≡◌, ℕ, ◌<◌, ◌≤◌, ◌&&◌, nat_le, not, Bool, false, if◌then◌else◌, List, [], ◌∷◌, ◌++◌, length, fold, filter_map, Option, Some, None, is_none}
+use Rattle.std.specs.Prelude.{◌≡◌, ℕ, ◌<◌, ◌≤◌, ◌&&◌, nat_le, not, Bool, false, if◌then◌else◌, List, [], ◌∷◌}
+use Rattle.std.specs.Prelude.{◌++◌, length, fold, filter_map, Option, Some, None, is_none}
 use Rattle.pre_lldp.specs.LinkState.{Verify, verifies_since, last_verify, run_start, is_over, is_verified, is_verify_wanted}
 use Rattle.pre_verify.specs.declared.states.VerifyState.{VerifyState}
 use Rattle.pre_verify.specs.declared.states.VerifyState.TheVariants.{Idle, Wanted, Sending, Waiting, Failed, Verified}

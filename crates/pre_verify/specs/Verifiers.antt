@@ -1,5 +1,6 @@
 -- For which calls so far a verifier stands.
-use Rattle.std.specs.Prelude.{◌≡◌, ℕ, ◌+◌, ◌<◌, ◌≤◌, ◌&&◌, ◌||◌, ◌==◌, nat_le, nat_lt, not, Bool, true, false, List, [], length, is_some, is_none, Option, Some, None, option_map, ⊤}
+use Rattle.std.specs.Prelude.{◌≡◌, ℕ, ◌+◌, ◌<◌, ◌≤◌, ◌&&◌, ◌||◌, ◌==◌, nat_le, nat_lt, not, Bool, true, false}
+use Rattle.std.specs.Prelude.{List, [], length, is_some, is_none, Option, Some, None, option_map, ⊤}
 use Rattle.std.specs.List.{list_any}
 use Rattle.std.specs.Option.{option_map_or}
 use Rattle.pre_lldp.specs.LinkState.{Verify, verifies_since, last_verify, run_start, is_answered, is_verified_since}

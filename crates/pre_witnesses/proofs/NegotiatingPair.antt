@@ -1,5 +1,6 @@
 -- When an arc of the pair that negotiates is good and active, and what it begins.
-use Rattle.std.proofs.Common.{ℕ, zero, suc, ◌≡◌, ◌≢◌, ◌-◌, ◌<◌, ◌≤◌, true, false, List, [], ◌∷◌, ◌++◌, length, take, drop, refl, sym, ◌∙◌, ap, inl, inr, arith, subst, Some, length-append}
+use Rattle.std.proofs.Common.{ℕ, zero, suc, ◌≡◌, ◌≢◌, ◌-◌, ◌<◌, ◌≤◌, true, false, List, [], ◌∷◌, ◌++◌}
+use Rattle.std.proofs.Common.{length, take, drop, refl, sym, ◌∙◌, ap, inl, inr, arith, subst, Some, length-append}
 use Rattle.std.specs.Prelude.{slice_get, Any}
 use Rattle.pre_base.specs.Last.{last}
 use Rattle.std.specs.Bool.{Decides}

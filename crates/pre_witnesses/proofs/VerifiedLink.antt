@@ -1,5 +1,7 @@
 -- The moments of the run in which a link is verified, one after another, up to the end.
-use Rattle.std.proofs.Common.{ℕ, zero, suc, ◌≡◌, ◌==◌, ◌+◌, ◌-◌, ◌*◌, ◌<◌, ◌≤◌, nat_le, Bool, true, false, [], ◌∷◌, ◌++◌, length, take, replicate, refl, sym, ◌∙◌, ap, inl, inr, arith, subst, Some, drop, length-append}
+use Rattle.std.proofs.Common.{ℕ, zero, suc, ◌≡◌, ◌==◌, ◌+◌, ◌-◌, ◌*◌, ◌<◌, ◌≤◌, nat_le, Bool, true, false, []}
+use Rattle.std.proofs.Common.{◌∷◌, ◌++◌, length, take, replicate, refl, sym, ◌∙◌, ap, inl, inr, arith, subst, Some, drop}
+use Rattle.std.proofs.Common.{length-append}
 use Rattle.std.specs.Prelude.{if◌then◌else◌, slice_get}
 use Rattle.std.proofs.lemmas.Bool.Decides.{nat_tests}
 use Rattle.pre_crc.specs.Checks.{Mcrc}
@@ -24,10 +26,13 @@ use Rattle.pre_history.specs.Comings.{Comings, EntriesOf}
 use Rattle.pre_history.specs.Rules.{EndDue, Arriving, StartDue, Expiry, HappensIn, CheckOf, last_four}
 use Rattle.pre_history.specs.Legal.{LegalUpTo}
 use Rattle.pre_laws.proofs.Reassembled.{told, spelled}
-use Rattle.pre_witnesses.specs.VerifiedLink.{ends, advert_check, zeros_check, first_advert, advert_begins, advert_ends, advert_arrives, verify_begins, verify_ends, verify_arrives, respond_begins, respond_ends, respond_arrives, turns_active}
+use Rattle.pre_witnesses.specs.VerifiedLink.{ends, advert_check, zeros_check, first_advert, advert_begins, advert_ends, advert_arrives}
+use Rattle.pre_witnesses.specs.VerifiedLink.{verify_begins, verify_ends, verify_arrives, respond_begins, respond_ends, respond_arrives}
+use Rattle.pre_witnesses.specs.VerifiedLink.{turns_active}
 use Rattle.pre_witnesses.proofs.Steps.{step, ends_now, arrives_now, Within, IsNotDue, turn, quiet}
 use Rattle.pre_witnesses.proofs.Occupation.{busy, occupied_quiet}
-use Rattle.pre_witnesses.proofs.NegotiatingPair.{Negotiating, scenario_of, routed, HasHeard, advert_from, advert_begin, advert_end, advert_arrival, advert_given, no_change, rises_now, advert_starts, verify_starts, respond_starts}
+use Rattle.pre_witnesses.proofs.NegotiatingPair.{Negotiating, scenario_of, routed, HasHeard, advert_from, advert_begin, advert_end, advert_arrival}
+use Rattle.pre_witnesses.proofs.NegotiatingPair.{advert_given, no_change, rises_now, advert_starts, verify_starts, respond_starts}
 
 -- ---- the history so far
 

@@ -9,7 +9,7 @@ use Rattle.pre_cli.proofs.dissecting.dissect_octets.Goals as goal
 pub returns-in-Ok-clause-leaves : goal.returns-in-Ok-clause-leaves
 returns-in-Ok-clause-leaves g c =
     all_leaves c.flushed.result c.args.octets.now (g.S.Sink.tells c.args.sink.now) (g.S.Sink.tells c.dissect.new.sink) (g.S.Sink.tells c.flushed.new.sink)
-    (g.S.Sink.faults c.dissect.new.sink) (g.S.Sink.faults c.flushed.new.sink) c.in-Ok.ensures.leaves c.flushed.ensures
+    (g.S.Sink.faults c.dissect.new.sink) (g.S.Sink.faults c.flushed.new.sink) c.in-Ok.ensures.leaves c.flushed.ensures.ends
 
 pub returns-in-Err-Pcap-clause-leaves : goal.returns-in-Err-Pcap-clause-leaves
 returns-in-Err-Pcap-clause-leaves g c =
@@ -19,7 +19,7 @@ returns-in-Err-Pcap-clause-leaves g c =
     let now = g.S.Sink.faults c.flushed-in-Err-Pcap.new.sink in
     fault_leaves c.flushed-in-Err-Pcap.result c.in-Err-Pcap.fault c.args.octets.now (g.S.Sink.tells c.args.sink.now) between after before now
     (subst (λ (x : DissectFault). Leaves {T = Unit {0}} (Err x) c.args.octets.now (g.S.Sink.tells c.args.sink.now) between) c.in-Err-Pcap.field-0-is c.in-Err-Pcap.ensures.leaves)
-    (subst (λ (s : Status). FlushEnds s c.flushed-in-Err-Pcap.result between after before now) c.fault_status.ensures c.flushed-in-Err-Pcap.ensures)
+    (subst (λ (s : Status). FlushEnds s c.flushed-in-Err-Pcap.result between after before now) c.fault_status.ensures c.flushed-in-Err-Pcap.ensures.ends)
 
 pub returns-in-Err-Failed-clause-leaves : goal.returns-in-Err-Failed-clause-leaves
 returns-in-Err-Failed-clause-leaves g c =

@@ -15,7 +15,7 @@ returns-in-Ok-clause-cause g c =
     let x : Drill c.args.number = record { net = c.args.net.now; streams = c.args.streams.now; script = c.args.summary.now.script.now; is_plant = c.requires.plant } in
     let has : HasLeast x.net x.streams = record { certificate = c.args.certificate.now; least = c.requires.least; none = c.requires.none } in
     flushed_cause c.args.number x c.flushed.result (g.S.Sink.faults c.args.sink.now) (g.S.Sink.faults c.put_summary.new.sink) (g.S.Sink.faults c.flushed.new.sink)
-    (g.S.Sink.tells c.put_summary.new.sink) (g.S.Sink.tells c.flushed.new.sink) (has, (c.requires.summed.0, c.requires.summed.1)) c.in-Ok.ensures.cause.later c.flushed.ensures.ends c.flushed.ensures.cause
+    (g.S.Sink.tells c.put_summary.new.sink) (g.S.Sink.tells c.flushed.new.sink) (has, (c.requires.summed.0, c.requires.summed.1)) c.in-Ok.ensures.cause.later c.flushed.ensures.ends
 
 pub returns-in-Err-clause-cause : goal.returns-in-Err-clause-cause
 returns-in-Err-clause-cause g c =
@@ -36,7 +36,7 @@ returns-in-Ok-clause-leaves g c =
     let here = subst (λ (l : List (StreamId × ℕ)). All (λ bound. bound.0.0 < length c.args.summary.now.tallies) l) (sym c.as_slice-bounds.ensures) rows in
     let within = delays_within w h good.values _ (c.network_law.ensures.certified w certificate h c.requires.run good legal) certificate good.says in
     flushed_leaves c.args.number x certificate c.requires.least h legal c.flushed.result
-    (g.S.Sink.tells c.args.sink.now) (g.S.Sink.tells c.put_summary.new.sink) (g.S.Sink.tells c.flushed.new.sink) within
+    (g.S.Sink.tells c.args.sink.now) (g.S.Sink.tells c.put_summary.new.sink) (g.S.Sink.tells c.flushed.new.sink) _ _ within
     (subst (λ (l : List (StreamId × ℕ)). WhereTold (g.S.Sink.tells c.args.sink.now) (g.S.Sink.tells c.put_summary.new.sink) (TakesWhole (summary_text w.net w.streams w.script h l c.args.number)))
     c.as_slice-bounds.ensures (c.in-Ok.ensures.octets h c.requires.summed.2 once (c.closings_are_few.ensures w h legal) here))
     c.flushed.ensures.ends

@@ -1,7 +1,7 @@
 use Rattle.std.proofs.Common.{List, ℕ, Err, subst, sym}
 use Rattle.pre_check.specs.Reading.{certificate_of, ReadsAs}
 use Rattle.pre_cli.specs.declared.statuses.Status.{Status}
-use Rattle.pre_cli.specs.Certifying.{InPlace, IsNoFile}
+use Rattle.pre_cli.specs.Files.{InPlace, IsNoFile}
 use Rattle.pre_cli.specs.Judging.{CertificateRefused}
 use Rattle.pre_cli.proofs.JudgeLemmas.{certificate_refused}
 use Rattle.pre_cli.proofs.judging.certificate_in.Goals as goal

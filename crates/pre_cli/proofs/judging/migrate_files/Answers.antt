@@ -3,7 +3,7 @@ use Rattle.pre_topo.specs.declared.network.Network.{Network}
 use Rattle.pre_streams.specs.declared.rows.Streams.{Streams}
 use Rattle.pre_bound.specs.declared.certificate.Certificate.{Certificate}
 use Rattle.pre_certify.specs.Text.{certificate_text}
-use Rattle.pre_cli.specs.Answers.{Outside}
+use Rattle.pre_cli.specs.Answers.{Outside, outside}
 use Rattle.pre_cli.specs.Judging.{judging, Migrates, MigratesFront}
 use Rattle.pre_cli.specs.Words.{judge_words}
 use Rattle.pre_cli.proofs.ReadingLemmas.{put_leaves}
@@ -17,16 +17,7 @@ returns-in-Ok-clause-cause g c =
 pub returns-in-Ok-clause-leaves : goal.returns-in-Ok-clause-leaves
 returns-in-Ok-clause-leaves g c =
     let x : Network × (Streams × Certificate) = (c.in-Ok.judged.net, (c.in-Ok.judged.certified.streams, c.in-Ok.judged.certified.certificate)) in
-    let o : Outside = record {
-      shelf_before = g.H.Shelf.faults c.args.shelf.now;
-      shelf_after = g.H.Shelf.faults c.judged_named.new.shelf;
-      sink_before = g.S.Sink.faults c.args.sink.now;
-      sink_after = g.S.Sink.faults c.put_migrated.new.sink;
-      told_before = g.H.Shelf.tells c.args.shelf.now;
-      told_after = g.H.Shelf.tells c.judged_named.new.shelf;
-      taken_before = g.S.Sink.tells c.args.sink.now;
-      taken_after = g.S.Sink.tells c.put_migrated.new.sink;
-    } in
+    let o : Outside = outside g.H.Shelf.faults g.H.Shelf.tells c.args.shelf.now c.judged_named.new.shelf g.S.Sink.faults g.S.Sink.tells c.args.sink.now c.put_migrated.new.sink in
     put_leaves (judging (judge_words c.args.net_word.now c.args.streams_word.now c.args.certificate_word.now)) Migrates MigratesFront c.put_migrated.result o (certificate_text x.0 x.1.0.rows x.1.1) x
     (λ a b took. (c.in-Ok.ensures.good, took)) (λ a b took. took) c.in-Ok.ensures.judged c.put_migrated.ensures.ends
 

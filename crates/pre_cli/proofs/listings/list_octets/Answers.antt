@@ -9,7 +9,7 @@ pub returns-in-Ok-put_listing-clause-leaves : goal.returns-in-Ok-put_listing-cla
 returns-in-Ok-put_listing-clause-leaves g c =
     let before = g.S.Sink.tells c.args.sink.now in
     let after = g.S.Sink.tells c.put_listing.new.sink in
-    flushed_leaves c.flushed.result c.args.octets.now c.in-Ok.arrivals before after (g.S.Sink.tells c.flushed.new.sink)
+    flushed_leaves c.flushed.result c.args.octets.now c.in-Ok.arrivals before after (g.S.Sink.tells c.flushed.new.sink) _ _
     (read_well c.in-Ok.arrivals (arrivals_of c.args.octets.now) c.in-Ok.ensures)
     (subst (λ (l : List (List ℕ)). WhereTold before after (TakesList l)) c.as_slice.ensures c.in-Ok-put_listing.ensures.lines)
     c.flushed.ensures.ends

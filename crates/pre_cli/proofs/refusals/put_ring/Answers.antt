@@ -9,12 +9,12 @@ pub returns-in_err-write_all-clause-octets : goal.returns-in_err-write_all-claus
 returns-in_err-write_all-clause-octets g c =
     let before = g.S.Sink.tells c.args.sink.now in
     let after = g.S.Sink.tells c.write_all.new.sink in
-    let took : WhereTold before after (TakesFront (codes "unfit ring")) = search rules in
-    two_breaks before after (codes "unfit ring") (behind_space c.args.arc ++ (behind_space c.args.prio ++ behind_space c.args.need)) c.from_residual.result c.from_residual.ensures.0 took
+    let took : WhereTold before after (TakesFront (codes " ring")) = search rules in
+    two_breaks before after (codes " ring") (behind_space c.args.arc ++ (behind_space c.args.prio ++ behind_space c.args.need)) c.from_residual.result c.from_residual.ensures.0 took
 
 pub returns-clause-octets : goal.returns-clause-octets
 returns-clause-octets g c =
     let before = g.S.Sink.tells c.args.sink.now in
     let after = g.S.Sink.tells c.write_all.new.sink in
-    let took : WhereTold before after (TakesWhole (codes "unfit ring")) = search rules in
-    two_ends before after (g.S.Sink.tells c.put_port_need.new.sink) (codes "unfit ring") (behind_space c.args.arc ++ (behind_space c.args.prio ++ behind_space c.args.need)) c.put_port_need.result took c.put_port_need.ensures.octets
+    let took : WhereTold before after (TakesWhole (codes " ring")) = search rules in
+    two_ends before after (g.S.Sink.tells c.put_port_need.new.sink) (codes " ring") (behind_space c.args.arc ++ (behind_space c.args.prio ++ behind_space c.args.need)) c.put_port_need.result took c.put_port_need.ensures.octets

@@ -1,5 +1,5 @@
 use Rattle.std.proofs.Common.{inr, refl}
-use Rattle.pre_cli.specs.Answers.{Outside}
+use Rattle.pre_cli.specs.Answers.{Outside, outside}
 use Rattle.pre_cli.specs.Replaying.{Replay, scenario_in, certificate_in}
 use Rattle.pre_cli.specs.Words.{ReplayWords, replay_words}
 use Rattle.pre_cli.proofs.ReplayLemmas.{nothing_run, run_cause, run_leaves}
@@ -10,16 +10,7 @@ returns-in-Ok-clause-cause g c =
     let words : ReplayWords = replay_words c.args.net_word.now c.args.streams_word.now c.args.certificate_word.now c.args.script_word.now in
     let input = c.in-Ok.input in
     let x : Replay = ((input.judged.net, (input.judged.certified.streams, input.judged.certified.certificate)), input.script) in
-    let o : Outside = record {
-      shelf_before = g.H.Shelf.faults c.args.shelf.now;
-      shelf_after = g.H.Shelf.faults c.input_named.new.shelf;
-      sink_before = g.S.Sink.faults c.args.sink.now;
-      sink_after = g.S.Sink.faults c.trace.new.sink;
-      told_before = g.H.Shelf.tells c.args.shelf.now;
-      told_after = g.H.Shelf.tells c.input_named.new.shelf;
-      taken_before = g.S.Sink.tells c.args.sink.now;
-      taken_after = g.S.Sink.tells c.trace.new.sink;
-    } in
+    let o : Outside = outside g.H.Shelf.faults g.H.Shelf.tells c.args.shelf.now c.input_named.new.shelf g.S.Sink.faults g.S.Sink.tells c.args.sink.now c.trace.new.sink in
     run_cause words o x c.in-Ok.ensures.input c.trace.result c.trace.ensures.cause
 
 pub returns-in-Ok-clause-leaves : goal.returns-in-Ok-clause-leaves
@@ -27,16 +18,7 @@ returns-in-Ok-clause-leaves g c =
     let words : ReplayWords = replay_words c.args.net_word.now c.args.streams_word.now c.args.certificate_word.now c.args.script_word.now in
     let input = c.in-Ok.input in
     let x : Replay = ((input.judged.net, (input.judged.certified.streams, input.judged.certified.certificate)), input.script) in
-    let o : Outside = record {
-      shelf_before = g.H.Shelf.faults c.args.shelf.now;
-      shelf_after = g.H.Shelf.faults c.input_named.new.shelf;
-      sink_before = g.S.Sink.faults c.args.sink.now;
-      sink_after = g.S.Sink.faults c.trace.new.sink;
-      told_before = g.H.Shelf.tells c.args.shelf.now;
-      told_after = g.H.Shelf.tells c.input_named.new.shelf;
-      taken_before = g.S.Sink.tells c.args.sink.now;
-      taken_after = g.S.Sink.tells c.trace.new.sink;
-    } in
+    let o : Outside = outside g.H.Shelf.faults g.H.Shelf.tells c.args.shelf.now c.input_named.new.shelf g.S.Sink.faults g.S.Sink.tells c.args.sink.now c.trace.new.sink in
     let run = c.makes_a_run.ensures in
     let good = c.in-Ok.ensures.good in
     run_leaves words o x c.in-Ok.ensures.input run good (λ h legal. c.network_law.ensures.certified (scenario_in x) (certificate_in x) h run good legal) c.trace.result c.trace.ensures.ends
@@ -47,14 +29,5 @@ returns-in-Err-clause-cause g c = inr c.in-Err.ensures.cause
 pub returns-in-Err-clause-leaves : goal.returns-in-Err-clause-leaves
 returns-in-Err-clause-leaves g c =
     let words : ReplayWords = replay_words c.args.net_word.now c.args.streams_word.now c.args.certificate_word.now c.args.script_word.now in
-    let o : Outside = record {
-      shelf_before = g.H.Shelf.faults c.args.shelf.now;
-      shelf_after = g.H.Shelf.faults c.input_named.new.shelf;
-      sink_before = g.S.Sink.faults c.args.sink.now;
-      sink_after = g.S.Sink.faults c.args.sink.now;
-      told_before = g.H.Shelf.tells c.args.shelf.now;
-      told_after = g.H.Shelf.tells c.input_named.new.shelf;
-      taken_before = g.S.Sink.tells c.args.sink.now;
-      taken_after = g.S.Sink.tells c.args.sink.now;
-    } in
+    let o : Outside = outside g.H.Shelf.faults g.H.Shelf.tells c.args.shelf.now c.input_named.new.shelf g.S.Sink.faults g.S.Sink.tells c.args.sink.now c.args.sink.now in
     nothing_run words o c.in-Err.status c.in-Err.ensures.cause refl

@@ -1,7 +1,7 @@
 use Rattle.std.proofs.Common.{List, ℕ, Err, subst, sym}
 use Rattle.pre_script.specs.Reading.{script_of, ReadsAs}
 use Rattle.pre_cli.specs.declared.statuses.Status.{Status}
-use Rattle.pre_cli.specs.Certifying.{InPlace, IsNoFile}
+use Rattle.pre_cli.specs.Files.{InPlace, IsNoFile}
 use Rattle.pre_cli.specs.Replaying.{ScriptRefused}
 use Rattle.pre_cli.proofs.ReplayLemmas.{script_refused, script_rises}
 use Rattle.pre_cli.proofs.replays.script_in.Goals as goal

@@ -11,4 +11,4 @@ returns-in-Ok-Alias-clause-ends g c =
     let told = g.S.Sink.tells c.run.new.sink in
     let is = c.in-Ok-Alias.field-0-is in
     flushed_before w c.in-Ok-Alias.arc c.in-Ok-Alias.ordinal c.flushed-in-Ok-Alias.result before told (g.S.Sink.tells c.flushed-in-Ok-Alias.new.sink) _ _
-    (subst (λ s. RunLeaves w s before told) is c.in-Ok-Alias.ensures.octets) c.flushed-in-Ok-Alias.ensures
+    (subst (λ s. RunLeaves w s before told) is c.in-Ok-Alias.ensures.octets) c.flushed-in-Ok-Alias.ensures.ends

@@ -1,4 +1,4 @@
-use Rattle.std.proofs.Common.{◌≡◌, [], ◌∷◌, ◌++◌, length, refl, sym, ◌∙◌, Some, None}
+use Rattle.std.proofs.Common.{◌≡◌, [], ◌∷◌, ◌++◌, length, refl, sym, ◌∙◌, Some, None, rules}
 use Rattle.pre_mpacket.specs.declared.reading.MFault.{MFault}
 use Rattle.pre_mpacket.specs.Spelling.{IsFirstFault, plain}
 use Rattle.pre_mpacket.specs.Arrivals.{IsOpenBefore}
@@ -9,6 +9,7 @@ use Rattle.pre_receive.proofs.Joins.{spelled}
 use Rattle.pre_receive.proofs.Sorts.{sorted_taken, sorted_holds}
 use Rattle.pre_receive.proofs.Faulty.{unspelled, fault_taken, fault_holds}
 use Rattle.pre_receive.proofs.PacketLaws.{packet_laws}
+use Rattle.pre_receive.proofs.Checked.{sorted_checked}
 use Rattle.pre_receive.proofs.receivers.Receiver.receive.Goals as goal
 
 pub returns-in-Err-clause-stands : goal.returns-in-Err-clause-stands
@@ -61,3 +62,6 @@ returns-in-Ok-clause-taken c = λ A s.
     let o = c.sorted-outcome.result in
     let sound : (d : MFault) → ¬ IsFirstFault d a = λ d first. cc (c.in-Ok.ensures.fault_due d first) in
     sorted_taken packet_laws A a (plain c.in-Ok.packet) c.in-Ok.ensures.spelled sound c.in-Ok.packet.kind refl c.args.self.now new o s.holds c.sorted-outcome.ensures.sorted
+
+pub returns-in-Ok-clause-check : goal.returns-in-Ok-clause-check
+returns-in-Ok-clause-check c = sorted_checked c.in-Ok.packet.kind c.sorted-outcome.result _ _ c.args.self.now c.sorted-outcome.new.self (search rules) c.sorted-outcome.ensures.sorted

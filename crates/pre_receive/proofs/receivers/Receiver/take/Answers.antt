@@ -1,5 +1,5 @@
 use Rattle.std.proofs.Common.{List, ℕ, Option, Some, [], ◌∷◌, ◌++◌, length, refl, sym, subst}
-use Rattle.pre_receive.specs.Takings.{plain, IsTaken}
+use Rattle.pre_receive.specs.Takings.{plain, IsTaken, HasCheck}
 use Rattle.pre_receive.specs.Receivers.{Stands}
 use Rattle.pre_receive.proofs.Sizes.{taken_size}
 use Rattle.pre_receive.proofs.receivers.Receiver.take.Goals as goal
@@ -13,5 +13,6 @@ returns c =
         after = tt;
         taken = taken;
         size = λ A stands. taken_size c.frames_have_their_size.ensures (A ++ Some c.args.arrived.now ∷ []) (length A) (plain c.lent.result) (taken A stands);
+        check = subst HasCheck (sym c.lent.ensures) c.receive-outcome.ensures.check;
       },
     )

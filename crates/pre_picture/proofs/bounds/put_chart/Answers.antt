@@ -1,0 +1,12 @@
+use Rattle.pre_picture.proofs.Drawn.{first_fails, second_fails, third_ends}
+use Rattle.pre_picture.proofs.bounds.put_chart.Goals as goal
+
+pub returns-in_err-put_bounds_front-clause-octets : goal.returns-in_err-put_bounds_front-clause-octets
+returns-in_err-put_bounds_front-clause-octets g c = first_fails _ _ _ _ c.from_residual.result c.from_residual.ensures.0 c.in_err-put_bounds_front.ensures.octets
+
+pub returns-in_err-put_rows-clause-octets : goal.returns-in_err-put_rows-clause-octets
+returns-in_err-put_rows-clause-octets g c =
+    second_fails _ _ _ _ _ _ c.from_residual-in_err-put_rows.result c.from_residual-in_err-put_rows.ensures.0 c.in_ok-put_bounds_front.ensures.octets c.in_err-put_rows.ensures.octets
+
+pub returns-clause-octets : goal.returns-clause-octets
+returns-clause-octets g c = third_ends _ _ _ _ _ _ _ c.put_tail.result c.in_ok-put_bounds_front.ensures.octets c.in_ok-put_rows.ensures.octets c.put_tail.ensures.octets

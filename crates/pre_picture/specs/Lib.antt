@@ -1,0 +1,10 @@
+pub mod Escapes
+pub mod Pieces
+pub mod Scales
+pub mod Traces
+pub mod Bars
+pub mod Charts
+pub mod Runs
+pub mod Bounds
+pub mod Delays
+pub mod Queues
